@@ -1,0 +1,6 @@
+-- The laws that belong to no one function.
+pub mod Ring
+pub mod Order
+pub mod Abs
+pub mod Identity
+pub mod Floor

@@ -3,4 +3,9 @@ pub mod Ring
 pub mod Order
 pub mod Abs
 pub mod Identity
+pub mod Written
+pub mod Linear
+pub mod Ranges
+pub mod Machine
 pub mod Floor
+mod Shown

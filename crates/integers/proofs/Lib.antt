@@ -8,4 +8,5 @@ pub mod Linear
 pub mod Ranges
 pub mod Machine
 pub mod Floor
+pub mod Plane
 mod Shown

@@ -1,3 +1,4 @@
--- What the contracts of this crate cite.
+-- What the contracts of this crate cite, and what the crates above define their own terms by.
 pub mod Floor
 pub mod Root
+pub mod Plane

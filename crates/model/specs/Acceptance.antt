@@ -1,0 +1,178 @@
+-- Document 01, "The crest file" and "Refusal numbers": when a file, and when record bytes, are accepted.
+use Prim.Native.Nat.{ℕ, zero, suc, _+_, _-_, _*_, _/_, _^_}
+use mathlib.Core.Bool.{Bool, true, false, not, cond, _&&_, _||_}
+use mathlib.Core.List.{List, [], _∷_, _++_, map}
+use lib.ListN.{length}
+use lib.Dec.{leb, ltb, eqb}
+use lib.IntN.{ℤ, pos, natAbs, _+ℤ_, _-ℤ_, _*ℤ_}
+use Rattle.model.specs.declared.Kind.{Kind}
+use Rattle.model.specs.declared.Kind.the-variants.{Line, Arc, EntrySpiral, ExitSpiral}
+use Rattle.model.specs.declared.KindByte.{KindByte}
+use Rattle.model.specs.declared.KindByte.the-variants.{Damaged, Known, Later}
+use Rattle.model.specs.declared.Element.{Element}
+use Rattle.model.specs.declared.Point.{Point}
+use Rattle.model.specs.declared.Outcome.{Outcome}
+use Rattle.model.specs.Kinds.{decide}
+use Rattle.model.specs.Records.{byteAt, u16At, u32At, i32At, part, allZero, sumA, sumB, blockCount, blockOf, usedIn, recordBytes, countOf, recordOf}
+use Rattle.model.specs.Refusals.{Rule, rule, rule₀, verdict, forEach, byteCount, checksum, blockField, damagedKind, laterKind, outOfRange, notUnit, gap, kink}
+use Rattle.model.specs.Rounding.{ONE}
+use Rattle.model.specs.Series.{positionOn, tangentOn}
+
+-- ---- a record as an element
+
+unfoldable pub isDamaged : KindByte → Bool
+isDamaged Damaged = true
+isDamaged (Known k) = false
+isDamaged Later = false
+
+unfoldable pub isLater : KindByte → Bool
+isLater Damaged = false
+isLater (Known k) = false
+isLater Later = true
+
+-- the kind that a byte names; a byte that names none is refused before its element is used
+unfoldable pub kindOr : KindByte → Kind
+kindOr Damaged = Line
+kindOr (Known k) = k
+kindOr Later = Line
+
+-- "Record: 0 kind; 1 to 3 zero; 4 length L, u32; 8 x; 12 y; 16 c; 20 s; 24 radius R in mm; 28 zero, u32. x, y, c, s and R are i32."
+unfoldable pub elementOf : List ℕ → Element
+unfolding kindOr decide
+elementOf r = record { kind = kindOr (decide (byteAt r 0)); length = u32At r 4; x = i32At r 8; y = i32At r 12; c = i32At r 16; s = i32At r 20; radius = i32At r 24 }
+
+-- ---- one record
+
+-- "a nonzero byte 1 to 3 or 28 to 31 of a used record"
+unfoldable pub reservedZero : List ℕ → Bool
+unfolding allZero
+reservedZero r = allZero (part r 1 3) && allZero (part r 28 4)
+
+-- "The frame: every given point lies within ±200,000,000 in both coordinates."
+unfoldable pub inFrame : ℤ → ℤ → Bool
+inFrame x y = leb (natAbs x) 200000000 && leb (natAbs y) 200000000
+
+-- "L from 1 to 500,000"
+unfoldable pub lengthGood : ℕ → Bool
+lengthGood l = leb 1 l && leb l 500000
+
+-- "line R = 0; arc 2L ≤ |R| ≤ 10,000,000; spiral L ≤ |R| ≤ 10,000,000"
+unfoldable pub radiusGood : Kind → ℕ → ℕ → Bool
+radiusGood Line l r = eqb r 0
+radiusGood Arc l r = leb (2 * l) r && leb r 10000000
+radiusGood EntrySpiral l r = leb l r && leb r 10000000
+radiusGood ExitSpiral l r = leb l r && leb r 10000000
+
+-- "length, radius, x or y out of range", where x and y are "within ±200,000,000"
+unfoldable pub rangesGood : Element → Bool
+unfolding lengthGood radiusGood inFrame
+rangesGood e = lengthGood (e .length) && radiusGood (e .kind) (e .length) (natAbs (e .radius)) && inFrame (e .x) (e .y)
+
+-- "Direction: c² + s² at most 2^31 from 2^60."
+unfoldable pub isUnit : ℤ → ℤ → Bool
+isUnit c s = leb (natAbs (c *ℤ c +ℤ s *ℤ s -ℤ pos (2 ^ 60))) (2 ^ 31)
+
+-- "record by record its kind, reserved bytes, 6, 7"
+unfoldable pub recordRules : List ℕ → ℕ → List Rule
+unfolding isDamaged isLater reservedZero rangesGood isUnit elementOf
+recordRules bytes r =
+    let this = recordOf bytes r in
+    let e = elementOf this in
+    rule damagedKind r (not (isDamaged (decide (byteAt this 0))))
+    ∷ rule laterKind r (not (isLater (decide (byteAt this 0))))
+    ∷ rule damagedKind r (reservedZero this)
+    ∷ rule outOfRange r (rangesGood e)
+    ∷ rule notUnit r (isUnit (e .c) (e .s))
+    ∷ []
+
+-- ---- joins
+
+-- both coordinates, or both components, differ by at most n
+unfoldable pub closeBy : ℕ → Point → Point → Bool
+closeBy n p q = leb (natAbs (p .x -ℤ q .x)) n && leb (natAbs (p .y -ℤ q .y)) n
+
+-- "At each join the last position of an element and the first of the next differ by at most 100 grains in each coordinate"
+unfoldable pub meets : Element → Element → Bool
+unfolding closeBy positionOn
+meets e f = closeBy 100 (positionOn e (e .length)) (positionOn f 0)
+
+-- "and their directions by at most 1,000,000 in each component"
+unfoldable pub continues : Element → Element → Bool
+unfolding closeBy tangentOn
+continues e f = closeBy 1000000 (tangentOn e (e .length)) (tangentOn f 0)
+
+-- "then joins from the first, 8 before 9", "earlier record for 8, 9"
+unfoldable pub joinRules : List ℕ → ℕ → List Rule
+unfolding elementOf meets continues
+joinRules bytes r =
+    let e = elementOf (recordOf bytes r) in
+    let f = elementOf (recordOf bytes (r + 1)) in
+    rule gap r (meets e f) ∷ rule kink r (continues e f) ∷ []
+
+-- 4 to 9 on record bytes
+unfoldable pub recordsRules : List ℕ → List Rule
+unfolding forEach recordRules joinRules
+recordsRules bytes = forEach (recordRules bytes) (countOf bytes) 0 ++ forEach (joinRules bytes) (countOf bytes - 1) 0
+
+-- ---- blocks
+
+-- "byte count not 512, 1024, 1536 or 2048"
+unfoldable pub lengthFits : ℕ → Bool
+lengthFits n = eqb n 512 || eqb n 1024 || eqb n 1536 || eqb n 2048
+
+-- "a block's A or B is wrong"
+unfoldable pub sumsAgree : List ℕ → Bool
+unfolding sumA sumB
+sumsAgree block = eqb (u16At block 508) (sumA block) && eqb (u16At block 510) (sumB block)
+
+-- "Every block but the last uses 15 records, the last 1 to 15": of block b of n
+unfoldable pub useFits : ℕ → ℕ → ℕ → Bool
+useFits n b used = cond (eqb (b + 1) n) (leb 1 used && leb used 15) (eqb used 15)
+
+-- "480: block number, u16, from 0. 482: records in use, u16. 484: edition, u32, is 1. 488 to 507: zero. .. unused records are zero."
+unfoldable pub fieldsFit : ℕ → ℕ → List ℕ → Bool
+unfolding useFits allZero
+fieldsFit n b block =
+    eqb (u16At block 480) b
+    && useFits n b (usedIn block)
+    && eqb (u32At block 484) 1
+    && allZero (part block 488 20)
+    && allZero (part block (32 * usedIn block) (480 - 32 * usedIn block))
+
+unfoldable pub sumRules : List ℕ → ℕ → List Rule
+unfolding sumsAgree
+sumRules file b = rule checksum b (sumsAgree (blockOf file b)) ∷ []
+
+unfoldable pub fieldRules : List ℕ → ℕ → List Rule
+unfolding fieldsFit
+fieldRules file b = rule blockField b (fieldsFit (blockCount file) b (blockOf file b)) ∷ []
+
+-- ---- a file
+
+-- "Order: .. 1; 2 for all blocks; 3 for all; then record by record .."
+unfoldable pub crestRules : List ℕ → List Rule
+unfolding lengthFits forEach sumRules fieldRules recordsRules recordBytes
+crestRules file =
+    rule₀ byteCount (lengthFits (length file))
+    ∷ (forEach (sumRules file) (blockCount file) 0
+    ++ (forEach (fieldRules file) (blockCount file) 0
+    ++ recordsRules (recordBytes file)))
+
+-- "An alignment is accepted when no refusal of its own bytes applies, here 1 to 9."
+unfoldable pub checked : List ℕ → Outcome
+unfolding verdict crestRules
+checked file = verdict (crestRules file)
+
+unfoldable pub elementsFrom : ℕ → ℕ → List ℕ → List Element
+unfolding elementOf
+elementsFrom zero r bytes = []
+elementsFrom (suc n) r bytes = elementOf (recordOf bytes r) ∷ elementsFrom n (r + 1) bytes
+
+-- the elements of record bytes, and of a file
+unfoldable pub elementsOf : List ℕ → List Element
+unfolding elementsFrom
+elementsOf bytes = elementsFrom (countOf bytes) 0 bytes
+
+unfoldable pub crestElements : List ℕ → List Element
+unfolding elementsOf recordBytes
+crestElements file = elementsOf (recordBytes file)

@@ -1,0 +1,186 @@
+-- Document 01, "Station, offset, inverse, stake-out" and "Refusal numbers": what each question is answered, refused ones too.
+use Prim.Native.Nat.{ℕ, _*_, _+_}
+use mathlib.Core.Bool.{Bool, true, false, not, _&&_}
+use mathlib.Core.List.{List, [], _∷_, _++_}
+use lib.Dec.{leb, ltb, eqb}
+use lib.IntN.{ℤ, pos, negℤ, natAbs, _+ℤ_, _-ℤ_, _*ℤ_}
+use lib.Signed.{ltZ, nonNeg}
+use Rattle.model.specs.declared.Element.{Element}
+use Rattle.model.specs.declared.Point.{Point}
+use Rattle.model.specs.declared.Refusal.{Refusal}
+use Rattle.model.specs.declared.Outcome.{Outcome}
+use Rattle.model.specs.declared.Outcome.the-variants.{Done, Refused}
+use Rattle.model.specs.declared.Placed.{Placed}
+use Rattle.model.specs.declared.Placed.the-variants.{At as PlacedAt, Refused as PlacedRefused}
+use Rattle.model.specs.declared.Located.{Located}
+use Rattle.model.specs.declared.Located.the-variants.{At as LocatedAt, Refused as LocatedRefused}
+use Rattle.model.specs.declared.Inverse.{Inverse}
+use Rattle.model.specs.declared.Inverse.the-variants.{At as InverseAt, Refused as InverseRefused}
+use Rattle.model.specs.declared.Move.{Move}
+use Rattle.model.specs.declared.Move.the-variants.{By, Refused as MoveRefused}
+use Rattle.model.specs.Rounding.{ONE, near}
+use Rattle.model.specs.Records.{part, recordStart, recordBytes, countOf}
+use Rattle.model.specs.Refusals.{Rule, rule₀, verdict, notUnit, outsideFrame, tooFar, beforeStart, afterEnd, noSuchPlace}
+use Rattle.model.specs.Acceptance.{inFrame, isUnit, crestRules, crestElements}
+use Rattle.model.specs.Stations.{total, positionAt, tangentAt, D}
+use Rattle.model.specs.Judged.{judged, residualAt, offsetAt, minus}
+use Rattle.model.specs.Walk.{visitCount}
+
+-- ---- the paper's number, place and values of each answer
+
+-- "A refusal returns its number and a place .., all other numbers zero"; an answer has number 0.
+pub record Paper : Type 0 where
+  pub number : ℕ
+  pub place : ℕ
+  pub values : List ℤ
+
+abbrev pub answer : List ℤ → Paper
+answer values = record { number = 0; place = 0; values = values }
+
+abbrev pub refusedWith : Refusal → List ℤ → Paper
+refusedWith r zeros = record { number = r .number; place = r .place; values = zeros }
+
+unfoldable pub paperOfOutcome : Outcome → Paper
+paperOfOutcome Done = answer []
+paperOfOutcome (Refused r) = refusedWith r []
+
+unfoldable pub paperOfPlaced : Placed → Paper
+paperOfPlaced (PlacedAt x y tx ty) = answer (x ∷ y ∷ tx ∷ ty ∷ [])
+paperOfPlaced (PlacedRefused r) = refusedWith r (pos 0 ∷ pos 0 ∷ pos 0 ∷ pos 0 ∷ [])
+
+-- "Every answer to a plane point carries it beside station, offset and residual; a refusal gives 0 for it"
+unfoldable pub paperOfLocated : Located → Paper
+paperOfLocated (LocatedAt station offset residual visits) = answer (pos station ∷ offset ∷ residual ∷ pos visits ∷ [])
+paperOfLocated (LocatedRefused r) = refusedWith r (pos 0 ∷ pos 0 ∷ pos 0 ∷ pos 0 ∷ [])
+
+unfoldable pub paperOfInverse : Inverse → Paper
+paperOfInverse (InverseAt x y) = answer (x ∷ y ∷ [])
+paperOfInverse (InverseRefused r) = refusedWith r (pos 0 ∷ pos 0 ∷ [])
+
+unfoldable pub paperOfMove : Move → Paper
+paperOfMove (By forward left) = answer (forward ∷ left ∷ [])
+paperOfMove (MoveRefused r) = refusedWith r (pos 0 ∷ pos 0 ∷ [])
+
+-- "A C call returns the refusal number plus 256 times its place, or 0"
+unfoldable pub code : Paper → ℕ
+code p = p .number + 256 * p .place
+
+-- ---- the reader
+
+-- "station, offset or record number out of range", after the crest's own
+unfoldable pub readerOutcome : List ℕ → ℕ → Outcome
+unfolding verdict crestRules recordBytes
+readerOutcome file r = verdict (crestRules file ++ (rule₀ noSuchPlace (ltb r (countOf (recordBytes file))) ∷ []))
+
+-- "The reader hands back a record as that part of the lent bytes, not a copy; a refusal hands back an empty part."
+unfoldable pub partIf : Outcome → List ℕ → ℕ → List ℕ
+partIf Done file r = part file (recordStart r) 32
+partIf (Refused why) file r = []
+
+unfoldable pub readerPart : List ℕ → ℕ → List ℕ
+unfolding partIf readerOutcome
+readerPart file r = partIf (readerOutcome file r) file r
+
+-- ---- position and direction at a station
+
+unfoldable pub placedIf : Outcome → List Element → ℕ → Placed
+unfolding positionAt tangentAt
+placedIf Done es s = let p = positionAt es s in let t = tangentAt es s in PlacedAt (p .x) (p .y) (t .x) (t .y)
+placedIf (Refused r) es s = PlacedRefused r
+
+-- "a position at a station isn't tested against the frame"
+unfoldable pub placed : List ℕ → ℕ → Placed
+unfolding placedIf verdict crestRules crestElements total
+placed file s = placedIf (verdict (crestRules file ++ (rule₀ noSuchPlace (leb s (total (crestElements file))) ∷ []))) (crestElements file) s
+
+-- ---- station and offset of a point
+
+-- "11 .. ; 12; 13; 14", the last three at the station judged
+unfoldable pub pointRules : List Element → Point → List Rule
+unfolding inFrame judged D residualAt total
+pointRules es p =
+    let s = judged es p in
+    rule₀ outsideFrame (inFrame (p .x) (p .y))
+    ∷ rule₀ tooFar (leb (D es p s) 400000000000000)
+    ∷ rule₀ beforeStart (not (eqb s 0 && ltZ (residualAt es p s) (negℤ (pos 100))))
+    ∷ rule₀ afterEnd (not (eqb s (total es) && ltZ (pos 100) (residualAt es p s)))
+    ∷ []
+
+-- "12 to 14 are decided there, and an answer gives that station."
+unfoldable pub locatedIf : Outcome → List Element → Point → Located
+unfolding judged offsetAt residualAt visitCount
+locatedIf Done es p = let s = judged es p in LocatedAt s (offsetAt es p s) (residualAt es p s) (visitCount es p)
+locatedIf (Refused r) es p = LocatedRefused r
+
+-- with the rules that come before those of the point
+unfoldable pub locatedAfter : List Rule → List Element → Point → Located
+unfolding locatedIf verdict pointRules
+locatedAfter before es p = locatedIf (verdict (before ++ pointRules es p)) es p
+
+unfoldable pub locatedOn : List Element → Point → Located
+unfolding locatedAfter
+locatedOn es p = locatedAfter [] es p
+
+unfoldable pub located : List ℕ → Point → Located
+unfolding locatedAfter crestRules crestElements
+located file p = locatedAfter (crestRules file) (crestElements file) p
+
+-- ---- the inverse
+
+-- "Inverse of station s and offset w ..: (X − near(w·Ty, ONE), Y + near(w·Tx, ONE))."
+unfoldable pub inverseAt : List Element → ℕ → ℤ → Point
+unfolding positionAt tangentAt near
+inverseAt es s w =
+    let p = positionAt es s in
+    let t = tangentAt es s in
+    record { x = p .x -ℤ near (w *ℤ t .y) ONE; y = p .y +ℤ near (w *ℤ t .x) ONE }
+
+-- "|w| ≤ 20,000,000"; stations run from 0 to T. "15; .. 11 for a resulting point": the point is the inverse's.
+unfoldable pub lineRules : List Element → ℤ → ℤ → List Rule
+unfolding total inFrame inverseAt
+lineRules es s w =
+    let q = inverseAt es (natAbs s) w in
+    rule₀ noSuchPlace (nonNeg s && leb (natAbs s) (total es) && leb (natAbs w) 20000000)
+    ∷ rule₀ outsideFrame (inFrame (q .x) (q .y))
+    ∷ []
+
+unfoldable pub inverseIf : Outcome → List Element → ℤ → ℤ → Inverse
+unfolding inverseAt
+inverseIf Done es s w = let q = inverseAt es (natAbs s) w in InverseAt (q .x) (q .y)
+inverseIf (Refused r) es s w = InverseRefused r
+
+unfoldable pub inverseAfter : List Rule → List Element → ℤ → ℤ → Inverse
+unfolding inverseIf verdict lineRules
+inverseAfter before es s w = inverseIf (verdict (before ++ lineRules es s w)) es s w
+
+unfoldable pub inverseOn : List Element → ℤ → ℤ → Inverse
+unfolding inverseAfter
+inverseOn es s w = inverseAfter [] es s w
+
+unfoldable pub inverse : List ℕ → ℤ → ℤ → Inverse
+unfolding inverseAfter crestRules crestElements
+inverse file s w = inverseAfter (crestRules file) (crestElements file) s w
+
+-- ---- the stake-out
+
+-- "forward = near(c·dx + s·dy, ONE), left = near(−s·dx + c·dy, ONE), (dx, dy) = target − own"
+unfoldable pub moveOf : Point → Point → ℤ → ℤ → Move
+unfolding near minus
+moveOf own target c s =
+    let d = minus target own in
+    By (near (c *ℤ d .x +ℤ s *ℤ d .y) ONE) (near (negℤ s *ℤ d .x +ℤ c *ℤ d .y) ONE)
+
+-- "11 ..; 7 for a heading"
+unfoldable pub moveRules : Point → Point → ℤ → ℤ → List Rule
+unfolding inFrame isUnit
+moveRules own target c s =
+    rule₀ outsideFrame (inFrame (own .x) (own .y) && inFrame (target .x) (target .y)) ∷ rule₀ notUnit (isUnit c s) ∷ []
+
+unfoldable pub moveIf : Outcome → Point → Point → ℤ → ℤ → Move
+unfolding moveOf
+moveIf Done own target c s = moveOf own target c s
+moveIf (Refused r) own target c s = MoveRefused r
+
+unfoldable pub stakeOut : Point → Point → ℤ → ℤ → Move
+unfolding moveIf verdict moveRules
+stakeOut own target c s = moveIf (verdict (moveRules own target c s)) own target c s

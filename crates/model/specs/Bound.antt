@@ -1,0 +1,59 @@
+-- Document 01, "Position on an element", the paragraph "Bound": the three-term sums as fractions, and what it is to lie within 2 grains of one.
+use Prim.Native.Nat.{ℕ, _+_, _*_, _≤_, _^_}
+use lib.IntN.{ℤ, pos, negℤ, natAbs, _+ℤ_, _-ℤ_, _*ℤ_, pow}
+use Rattle.model.specs.declared.Kind.{Kind}
+use Rattle.model.specs.declared.Kind.the-variants.{Line, Arc, EntrySpiral, ExitSpiral}
+use Rattle.model.specs.declared.Element.{Element}
+use Rattle.model.specs.Series.{signedBy, lengthAt}
+
+-- the fraction numerator / denominator, with a denominator above 0
+pub record Fraction : Type 0 where
+  pub numerator : ℤ
+  pub denominator : ℕ
+
+abbrev pub fraction : ℤ → ℕ → Fraction
+fraction n d = record { numerator = n; denominator = d }
+
+-- "each lie within 2 grains of the exact fraction", "stated over whole numbers with the sum's denominator multiplied out"
+unfoldable pub Within2 : ℤ → Fraction → Type 0
+Within2 u f = natAbs (pos (f .denominator) *ℤ u -ℤ f .numerator) ≤ 2 * f .denominator
+
+-- 1 − φ²/a + φ⁴/b at φ = m/q: the numerator over a·b·q⁴
+unfoldable pub threeTerms : ℕ → ℕ → ℤ → ℕ → ℤ
+unfolding pow
+threeTerms a b m q = pos (a * b * q ^ 4) -ℤ pos (b * q ^ 2) *ℤ pow m 2 +ℤ pos a *ℤ pow m 4
+
+-- 100z(1 − φ²/a + φ⁴/b)
+unfoldable pub alongSum : ℕ → ℕ → ℕ → ℤ → ℕ → Fraction
+unfolding threeTerms
+alongSum a b z m q = fraction (pos (100 * z) *ℤ threeTerms a b m q) (a * b * q ^ 4)
+
+-- 100zφ(1 − φ²/a + φ⁴/b)/k
+unfoldable pub asideSum : ℕ → ℕ → ℕ → ℕ → ℤ → ℕ → Fraction
+unfolding threeTerms
+asideSum k a b z m q = fraction (pos (100 * z) *ℤ m *ℤ threeTerms a b m q) (k * (a * b * q ^ 5))
+
+-- φ or τ as a fraction m/q: "arc, φ = s/R", "spiral, τ = l²/(2RL)"
+unfoldable pub arcTurn : ℤ → ℕ → Fraction
+unfolding signedBy
+arcTurn radius s = fraction (signedBy radius s) (natAbs radius)
+
+unfoldable pub spiralTurn : ℤ → ℕ → ℕ → Fraction
+unfolding signedBy
+spiralTurn radius length l = fraction (signedBy radius (l * l)) (2 * natAbs radius * length)
+
+-- "arc ..: u 100s(1 − φ²/6 + φ⁴/120)", "spiral ..: U 100l(1 − τ²/10 + τ⁴/216)"; on a line u is 100s.
+unfoldable pub exactAlong : Kind → ℤ → ℕ → ℕ → Fraction
+unfolding alongSum arcTurn spiralTurn
+exactAlong Line radius length l = fraction (pos (100 * l)) 1
+exactAlong Arc radius length l = let φ = arcTurn radius l in alongSum 6 120 l (φ .numerator) (φ .denominator)
+exactAlong EntrySpiral radius length l = let τ = spiralTurn radius length l in alongSum 10 216 l (τ .numerator) (τ .denominator)
+exactAlong ExitSpiral radius length l = let τ = spiralTurn radius length l in alongSum 10 216 l (τ .numerator) (τ .denominator)
+
+-- "v 50sφ(1 − φ²/12 + φ⁴/360)", "V 100lτ(1 − τ²/14 + τ⁴/440)/3"; on a line v is 0.
+unfoldable pub exactAside : Kind → ℤ → ℕ → ℕ → Fraction
+unfolding asideSum arcTurn spiralTurn
+exactAside Line radius length l = fraction (pos 0) 1
+exactAside Arc radius length l = let φ = arcTurn radius l in asideSum 2 12 360 l (φ .numerator) (φ .denominator)
+exactAside EntrySpiral radius length l = let τ = spiralTurn radius length l in asideSum 3 14 440 l (τ .numerator) (τ .denominator)
+exactAside ExitSpiral radius length l = let τ = spiralTurn radius length l in asideSum 3 14 440 l (τ .numerator) (τ .denominator)

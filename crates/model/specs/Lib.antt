@@ -1,0 +1,15 @@
+-- Document 01 as definitions, a file for each chapter, in the order in which they build on one another.
+pub mod Rounding
+pub mod Refusals
+pub mod Kinds
+pub mod Records
+pub mod Series
+pub mod Bound
+pub mod Acceptance
+pub mod Writer
+pub mod Stations
+pub mod Judged
+pub mod Walk
+pub mod Answers
+pub mod Readings
+pub mod Run

@@ -1,0 +1,92 @@
+-- Document 01, "The crest file": fields, records, blocks and their sums. Bytes are lists of natural numbers.
+use Prim.Native.Nat.{ℕ, zero, suc, _+_, _-_, _*_, _/_, _%_}
+use mathlib.Core.Bool.{Bool, true, false, _&&_}
+use mathlib.Core.List.{List, [], _∷_, _++_}
+use lib.ListN.{length, take, drop, getD, replicate}
+use lib.Dec.{eqb}
+use lib.IntN.{ℤ}
+use mir.Syntax.{w32}
+use mir.Val.{toZ}
+
+-- ---- fields: "little-endian"
+
+abbrev pub byteAt : List ℕ → ℕ → ℕ
+byteAt l at = getD l at 0
+
+abbrev pub u16At : List ℕ → ℕ → ℕ
+u16At l at = byteAt l at + 256 * byteAt l (at + 1)
+
+abbrev pub u32At : List ℕ → ℕ → ℕ
+u32At l at = byteAt l at + 256 * byteAt l (at + 1) + 65536 * byteAt l (at + 2) + 16777216 * byteAt l (at + 3)
+
+-- two's complement: 2^31 and more are negative
+abbrev pub i32At : List ℕ → ℕ → ℤ
+i32At l at = toZ w32 (u32At l at)
+
+abbrev pub u16Bytes : ℕ → List ℕ
+u16Bytes n = n % 256 ∷ n / 256 % 256 ∷ []
+
+abbrev pub u32Bytes : ℕ → List ℕ
+u32Bytes n = n % 256 ∷ n / 256 % 256 ∷ n / 65536 % 256 ∷ n / 16777216 % 256 ∷ []
+
+-- the bytes from `at` on, `count` of them
+abbrev pub part : List ℕ → ℕ → ℕ → List ℕ
+part l at count = take count (drop at l)
+
+unfoldable pub allZero : List ℕ → Bool
+allZero [] = true
+allZero (b ∷ l) = eqb b 0 && allZero l
+
+-- ---- the sums of a block
+
+unfoldable pub sumOf : List ℕ → ℕ
+sumOf [] = 0
+sumOf (b ∷ l) = b + sumOf l
+
+-- "the sum of (508 − i) times byte i", for the bytes from i on
+unfoldable pub weightedFrom : ℕ → List ℕ → ℕ
+weightedFrom i [] = 0
+weightedFrom i (b ∷ l) = (508 - i) * b + weightedFrom (i + 1) l
+
+-- "508: A, u16, the sum of bytes 0 to 507 modulo 65,536."
+unfoldable pub sumA : List ℕ → ℕ
+unfolding sumOf
+sumA block = sumOf (take 508 block) % 65536
+
+-- "510: B, u16, the sum of (508 − i) times byte i, i from 0 to 507, same modulus."
+unfoldable pub sumB : List ℕ → ℕ
+unfolding weightedFrom
+sumB block = weightedFrom 0 (take 508 block) % 65536
+
+-- ---- blocks of a file, and the record bytes in them
+
+abbrev pub blockCount : List ℕ → ℕ
+blockCount file = length file / 512
+
+abbrev pub blockOf : List ℕ → ℕ → List ℕ
+blockOf file b = part file (512 * b) 512
+
+-- "482: records in use, u16."
+abbrev pub usedIn : List ℕ → ℕ
+usedIn block = u16At block 482
+
+-- The bytes of all used records, in order: "Bytes 0 to 479 hold 15 records of 32 bytes."
+unfoldable pub usedBytes : ℕ → List ℕ → List ℕ
+usedBytes zero file = []
+usedBytes (suc n) file = take (32 * usedIn file) file ++ usedBytes n (drop 512 file)
+
+unfoldable pub recordBytes : List ℕ → List ℕ
+unfolding usedBytes
+recordBytes file = usedBytes (blockCount file) file
+
+-- where record r, "counted from 0 over all blocks as every record number is", starts in a file
+abbrev pub recordStart : ℕ → ℕ
+recordStart r = 512 * (r / 15) + 32 * (r % 15)
+
+-- ---- records as one list of bytes
+
+abbrev pub countOf : List ℕ → ℕ
+countOf records = length records / 32
+
+abbrev pub recordOf : List ℕ → ℕ → List ℕ
+recordOf records r = part records (32 * r) 32

@@ -1,0 +1,139 @@
+// The types of the crest library, and the two decisions that the types themselves carry: a kind byte and a fresh run.
+// Every definition of document 01 over them is in specs/.
+ghost use mathlib.Core.Path.{_≡_};
+ghost use Rattle.model.specs.Kinds.{decide};
+
+// The four kinds of element that are known.
+pub enum Kind {
+    Line,
+    Arc,
+    EntrySpiral,
+    ExitSpiral,
+}
+
+// What a kind byte says.
+pub enum KindByte {
+    Damaged,
+    Known(Kind),
+    Later,
+}
+
+// The kind byte of a record: 0 and 16 to 255 are damage, 5 to 15 belong to later editions.
+pub fn kind_of(byte: u8) -> KindByte
+    ensures { λ r. ⌜ r ≡ decide byte ⌝ }
+{
+    match byte {
+        1 => KindByte::Known(Kind::Line),
+        2 => KindByte::Known(Kind::Arc),
+        3 => KindByte::Known(Kind::EntrySpiral),
+        4 => KindByte::Known(Kind::ExitSpiral),
+        5..=15 => KindByte::Later,
+        _ => KindByte::Damaged,
+    }
+}
+
+// An element as its record gives it: length and radius in mm, anchor in grains (document 01: 100 grains to 1 mm),
+// direction at the anchor.
+pub struct Element {
+    pub kind: Kind,
+    pub length: u64,
+    pub x: i64,
+    pub y: i64,
+    pub c: i64,
+    pub s: i64,
+    pub radius: i64,
+}
+
+// The elements of an accepted crest: the first `count` of the array.
+pub struct Alignment {
+    pub elements: [Element; 60],
+    pub count: usize,
+}
+
+// A point of the plane, in grains.
+pub struct Point {
+    pub x: i64,
+    pub y: i64,
+}
+
+// A refusal: its number in document 01's table, and its place.
+pub struct Refusal {
+    pub number: u32,
+    pub place: u32,
+}
+
+// What a check, a reader's part or a writer comes to.
+pub enum Outcome {
+    Done,
+    Refused(Refusal),
+}
+
+// Position and direction at a station.
+pub enum Placed {
+    At { x: i64, y: i64, tx: i64, ty: i64 },
+    Refused(Refusal),
+}
+
+// Station and offset of a point, with the residual and the number of stations that were visited.
+pub enum Located {
+    At {
+        station: u64,
+        offset: i64,
+        residual: i64,
+        visits: u64,
+    },
+    Refused(Refusal),
+}
+
+// The point at a station and an offset.
+pub enum Inverse {
+    At { x: i64, y: i64 },
+    Refused(Refusal),
+}
+
+// How far to move a stake: forward along the heading, and to its left.
+pub enum Move {
+    By { forward: i64, left: i64 },
+    Refused(Refusal),
+}
+
+// A reading from the logger.
+pub enum Reading {
+    PlanePoint { x: f64, y: f64 },
+    LinePlace { station: f64, offset: f64 },
+}
+
+// What a reading on a crest comes to.
+pub enum Taken {
+    PlanePoint {
+        station: u64,
+        offset: i64,
+        residual: i64,
+        visits: u64,
+    },
+    LinePlace {
+        x: i64,
+        y: i64,
+    },
+    Refused(Refusal),
+}
+
+// Station and offset in millimetres, for the display.
+pub struct Display {
+    pub station: f64,
+    pub offset: f64,
+}
+
+// The run record: how many readings were answered and refused, the number of the latest outcome with its three values,
+// and the first refusal since the last acknowledgement with the number of its reading.
+#[repr(C)]
+pub struct Run {
+    pub answered: u16,
+    pub refused: u16,
+    pub latest: u16,
+    pub first: u16,
+    pub reading: u16,
+    pub one: i32,
+    pub two: i32,
+    pub three: i32,
+}

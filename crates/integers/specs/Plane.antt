@@ -4,4 +4,4 @@ use lib.IntN.{ℤ, natAbs}
 
 -- x² + y², a natural number
 unfoldable pub squared : ℤ → ℤ → ℕ
-squared x y = natAbs x * natAbs x + natAbs y * natAbs y
+squared x y = let a = natAbs x in let b = natAbs y in a * a + b * b

@@ -95,27 +95,25 @@ placed file s = placedIf (verdict (crestRules file ++ (rule₀ noSuchPlace (leb 
 
 -- ---- station and offset of a point
 
--- "11 .. ; 12; 13; 14", the last three at the station judged
-unfoldable pub pointRules : List Element → Point → List Rule
-unfolding inFrame judged D residualAt total
-pointRules es p =
-    let s = judged es p in
+-- "11 .. ; 12; 13; 14", the last three at the station judged, s
+unfoldable pub pointRules : List Element → Point → ℕ → List Rule
+unfolding inFrame D residualAt total
+pointRules es p s =
     rule₀ outsideFrame (inFrame (p .x) (p .y))
     ∷ rule₀ tooFar (leb (D es p s) 400000000000000)
     ∷ rule₀ beforeStart (not (eqb s 0 && ltZ (residualAt es p s) (negℤ (pos 100))))
     ∷ rule₀ afterEnd (not (eqb s (total es) && ltZ (pos 100) (residualAt es p s)))
     ∷ []
 
--- "12 to 14 are decided there, and an answer gives that station."
-unfoldable pub locatedIf : Outcome → List Element → Point → Located
-unfolding judged offsetAt residualAt visitCount
-locatedIf Done es p = let s = judged es p in LocatedAt s (offsetAt es p s) (residualAt es p s) (visitCount es p)
-locatedIf (Refused r) es p = LocatedRefused r
+unfoldable pub locatedIf : Outcome → List Element → Point → ℕ → Located
+unfolding offsetAt residualAt visitCount
+locatedIf Done es p s = LocatedAt s (offsetAt es p s) (residualAt es p s) (visitCount es p)
+locatedIf (Refused r) es p s = LocatedRefused r
 
--- with the rules that come before those of the point
+-- "12 to 14 are decided there, and an answer gives that station." With the rules that come before those of the point.
 unfoldable pub locatedAfter : List Rule → List Element → Point → Located
-unfolding locatedIf verdict pointRules
-locatedAfter before es p = locatedIf (verdict (before ++ pointRules es p)) es p
+unfolding locatedIf verdict pointRules judged
+locatedAfter before es p = let s = judged es p in locatedIf (verdict (before ++ pointRules es p s)) es p s
 
 unfoldable pub locatedOn : List Element → Point → Located
 unfolding locatedAfter

@@ -13,3 +13,5 @@ pub mod Walk
 pub mod Answers
 pub mod Readings
 pub mod Run
+pub mod Histories
+pub mod Examples

@@ -57,4 +57,4 @@ distanceSq p q = squared (p .x -ℤ q .x) (p .y -ℤ q .y)
 -- "D(s) is the squared distance from the point P to the position (X, Y) at station s."
 unfoldable pub D : List Element → Point → ℕ → ℕ
 unfolding distanceSq positionAt
-D es p s = distanceSq p (positionAt es s)
+D es p s = let q = positionAt es s in distanceSq p q

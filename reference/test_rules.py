@@ -1,0 +1,783 @@
+"""Tests of the reference against document 01: every refusal at its limit and one beyond, places, orders,
+rounding, f64 cases, run histories, round trips, the 2-grain bound.
+"""
+
+import random
+import struct
+import unittest
+from fractions import Fraction
+from math import isqrt
+
+import crest
+from crest import ARC, ENTRY, EXIT, FRAME, LINE, ONE, Element, f64_bits, near
+from examples import K, file_of
+from random_crests import Wish, random_file, random_point, random_unit, unit_limit_pairs
+
+NAN = 0x7FF8000000000000
+INFINITE = 0x7FF0000000000000
+MINUS = 1 << 63
+
+
+def line(x=0, y=0, length=10, c=ONE, s=0):
+    return Element(LINE, length, x, y, c, s, 0)
+
+
+def lines(count):
+    """Lines of 10 mm one after the other along x."""
+    return [line(x=1000 * i) for i in range(count)]
+
+
+def records_of(elements):
+    return b"".join(map(crest.record_of, elements))
+
+
+def raw_file(elements):
+    """The file of these records without any check."""
+    return crest.file_made(records_of(elements))
+
+
+def sealed(file):
+    """The file with A and B made good in every block."""
+    blocks = [bytes(file[at : at + 512]) for at in range(0, len(file), 512)]
+    return b"".join(block[:508] + struct.pack("<HH", *crest.sums(block)) for block in blocks)
+
+
+def patched(file, at, data):
+    return file[:at] + bytes(data) + file[at + len(data) :]
+
+
+def altered(file, at, data):
+    """A change with the checks made good again."""
+    return sealed(patched(file, at, data))
+
+
+def refusal(elements):
+    """(number, place) for a file of these elements, (0, 0) when accepted."""
+    found = crest.check(raw_file(elements))
+    return tuple(found) if isinstance(found, crest.Refusal) else (0, 0)
+
+
+def file_refusal(file):
+    found = crest.check(file)
+    return tuple(found) if isinstance(found, crest.Refusal) else (0, 0)
+
+
+class Rounding(unittest.TestCase):
+    def test_near_at_halves(self):
+        rows = [(1, 2, 1), (-1, 2, 0), (3, 2, 2), (-3, 2, -1), (5, 10, 1), (-5, 10, 0), (-15, 10, -1)]
+        rows += [(0, 7, 0), (3, 7, 0), (4, 7, 1), (-3, 7, 0), (-4, 7, -1), (7, 1, 7), (-7, 1, -7)]
+        rows += [(ONE // 2, ONE, 1), (ONE // 2 - 1, ONE, 0), (-ONE // 2, ONE, 0), (-ONE // 2 - 1, ONE, -1)]
+        for n, d, wanted in rows:
+            self.assertEqual(near(n, d), wanted, (n, d))
+
+    def test_near_is_the_definition(self):
+        rng = random.Random(1)
+        for _ in range(2000):
+            n, d = rng.randint(-(10**30), 10**30), rng.randint(1, 10 ** rng.randint(1, 30))
+            q = near(n, d)
+            self.assertTrue(-d <= 2 * (n - q * d) < d)
+
+    def test_near_wants_a_positive_divisor(self):
+        for d in (0, -1):
+            with self.assertRaises(AssertionError):
+                near(1, d)
+
+
+class Blocks(unittest.TestCase):
+    def setUp(self):
+        self.two = file_of(*lines(17))
+        self.four = file_of(*lines(60))
+
+    def test_accepted(self):
+        for count in (1, 14, 15, 16, 30, 31, 45, 46, 59, 60):
+            file = raw_file(lines(count))
+            self.assertEqual(len(file), 512 * -(-count // 15))
+            self.assertEqual(len(crest.check(file).elements), count)
+
+    def test_1(self):
+        for length in (0, 1, 511, 513, 1023, 1025, 1535, 1537, 2047, 2049, 2560):
+            self.assertEqual(file_refusal(bytes(length)), (1, 0))
+        self.assertEqual(file_refusal(self.four + self.four[:512]), (1, 0))
+
+    def test_2_for_every_byte(self):
+        for at in range(1024):
+            changed = patched(self.two, at, [self.two[at] ^ 1])
+            self.assertEqual(file_refusal(changed), (2, at // 512))
+
+    def test_2_for_a_swap_that_keeps_a(self):
+        swapped = patched(K, 4, [K[5], K[4]])
+        self.assertEqual(crest.sums(swapped)[0], crest.sums(K)[0])
+        self.assertEqual(file_refusal(swapped), (2, 0))
+
+    def test_the_sums_modulus(self):
+        block = bytes([255] * 508)
+        self.assertEqual(crest.sums(block)[0], 255 * 508 % 65_536)
+        self.assertEqual(crest.sums(block)[1], 255 * 508 * 509 // 2 % 65_536)
+
+    def test_2_for_all_blocks_before_3(self):
+        bad_edition = altered(self.two, 484, [2])
+        self.assertEqual(file_refusal(bad_edition), (3, 0))
+        self.assertEqual(file_refusal(patched(bad_edition, 512 + 510, [0, 0])), (2, 1))
+
+    def test_3_block_number(self):
+        for block in range(4):
+            for wrong in {0, 1, 2, 3, 4, 256, 65_535} - {block}:
+                self.assertEqual(
+                    file_refusal(altered(self.four, 512 * block + 480, struct.pack("<H", wrong))), (3, block)
+                )
+
+    def test_3_use_count(self):
+        for wrong in (0, 3, 14, 16, 17, 256, 65_535):
+            found = file_refusal(altered(self.four, 482, struct.pack("<H", wrong)))
+            self.assertEqual(found, (3, 0))
+        for wrong in (0, 16, 65_535, 1):  # 1: the second record is not zero any more
+            found = file_refusal(altered(self.two, 512 + 482, struct.pack("<H", wrong)))
+            self.assertEqual(found, (3, 1))
+        # one record more than there is: a used record with kind 0
+        self.assertEqual(file_refusal(altered(self.two, 512 + 482, [3])), (4, 17))
+
+    def test_3_short_block_before_the_last(self):
+        short = file_of(*lines(14)) + crest.block_made(records_of(lines(16)[15:]), 1)
+        self.assertEqual(file_refusal(short), (3, 0))
+
+    def test_3_edition(self):
+        for wrong in (0, 2, 3, 256, 2**31, 2**32 - 1):
+            self.assertEqual(file_refusal(altered(K, 484, struct.pack("<I", wrong))), (3, 0))
+        self.assertEqual(file_refusal(altered(self.two, 512 + 487, [1])), (3, 1))
+
+    def test_3_zero_bytes(self):
+        for at in [*range(32, 480), *range(488, 508)]:
+            self.assertEqual(file_refusal(altered(K, at, [1])), (3, 0), at)
+        for at in (488, 507, 64, 479):
+            self.assertEqual(file_refusal(altered(self.two, 512 + at, [255])), (3, 1))
+
+    def test_3_for_all_before_4_and_least_block_first(self):
+        bad_kind = altered(self.two, 0, [0])
+        self.assertEqual(file_refusal(bad_kind), (4, 0))
+        self.assertEqual(file_refusal(altered(bad_kind, 512 + 488, [1])), (3, 1))
+        self.assertEqual(file_refusal(altered(altered(self.two, 512 + 488, [1]), 490, [1])), (3, 0))
+
+
+class Records(unittest.TestCase):
+    def test_4_and_5_kinds(self):
+        for place in (0, 16, 59):
+            file = file_of(*lines(60))
+            at = crest.read_record(file, place).start
+            for kind in range(256):
+                number = 0 if kind == 1 else 6 if kind in (2, 3, 4) else 5 if 5 <= kind <= 15 else 4
+                wanted = (number, place) if number else (0, 0)
+                self.assertEqual(file_refusal(altered(file, at, [kind])), wanted)
+
+    def test_4_reserved_bytes(self):
+        for at in (1, 2, 3, 28, 29, 30, 31):
+            for byte in (1, 128, 255):
+                self.assertEqual(file_refusal(altered(K, at, [byte])), (4, 0))
+
+    def test_kind_before_reserved_before_6_before_7(self):
+        later = altered(altered(K, 0, [7]), 2, [1])
+        self.assertEqual(file_refusal(later), (5, 0))
+        self.assertEqual(file_refusal(altered(later, 31, [9])), (5, 0))
+        reserved = altered(altered(K, 30, [1]), 4, struct.pack("<I", 0))
+        self.assertEqual(file_refusal(reserved), (4, 0))
+        self.assertEqual(refusal([line(length=0, c=5)]), (6, 0))
+        self.assertEqual(refusal([line(c=5)]), (7, 0))
+
+    def test_records_in_order_and_before_joins(self):
+        row = lines(20)
+        row[3] = row[3]._replace(c=5)
+        row[17] = row[17]._replace(kind=0)
+        self.assertEqual(refusal(row), (7, 3))
+        row[3] = row[3]._replace(c=ONE, x=0)
+        self.assertEqual(refusal(row), (4, 17))
+        row[17] = row[17]._replace(kind=LINE)
+        self.assertEqual(refusal(row), (8, 2))
+
+    def test_6_length(self):
+        for length, wanted in ((0, 6), (1, 0), (500_000, 0), (500_001, 6), (2**31, 6), (2**32 - 1, 6)):
+            self.assertEqual(refusal([line(length=length)])[0], wanted)
+
+    def test_6_anchor(self):
+        for size, wanted in ((FRAME, 0), (FRAME + 1, 6), (2**31 - 1, 6)):
+            for sign in (1, -1):
+                self.assertEqual(refusal([line(x=sign * size)])[0], wanted)
+                self.assertEqual(refusal([line(y=sign * size)])[0], wanted)
+        self.assertEqual(refusal([line(x=-(2**31))]), (6, 0))
+
+    def test_6_radius(self):
+        def number(kind, length, radius):
+            return refusal([Element(kind, length, 0, 0, ONE, 0, radius)])[0]
+
+        for radius in (-1, 1, 10_000_000, -(2**31)):
+            self.assertEqual(number(LINE, 10, radius), 6)
+        for sign in (1, -1):
+            for length in (1, 77, 500_000):
+                self.assertEqual(number(ARC, length, sign * 2 * length), 0)
+                self.assertEqual(number(ARC, length, sign * (2 * length - 1)), 6)
+                for kind in (ENTRY, EXIT):
+                    self.assertEqual(number(kind, length, sign * length), 0)
+                    self.assertEqual(number(kind, length, sign * (length - 1)), 6)
+                for kind in (ARC, ENTRY, EXIT):
+                    self.assertEqual(number(kind, length, sign * 10_000_000), 0)
+                    self.assertEqual(number(kind, length, sign * 10_000_001), 6)
+                    self.assertEqual(number(kind, length, 0), 6)
+        self.assertEqual(number(ARC, 1, -(2**31)), 6)
+
+    def test_7_unit(self):
+        above_in, above_out, below_in, below_out = unit_limit_pairs()
+        for (c, s), wanted in ((above_in, 0), (below_in, 0), (above_out, 7), (below_out, 7)):
+            for pair in ((c, s), (s, c), (-c, s), (c, -s), (-s, -c)):
+                self.assertEqual(refusal([line(c=pair[0], s=pair[1])])[0], wanted)
+                self.assertEqual(crest.stake_out((0, 0), (0, 0), pair).number, wanted)
+        self.assertEqual((ONE + 1) ** 2 - 2**60, 2**31 + 1)
+        self.assertEqual(refusal([line(c=ONE + 1)])[0], 7)
+        self.assertEqual(refusal([line(c=ONE - 1)])[0], 0)
+        self.assertEqual(refusal([line(c=-(2**31), s=-(2**31))])[0], 7)
+
+    def test_8_gap(self):
+        for place in (0, 14, 58):
+            for dx, dy, wanted in (
+                (100, 100, 0), (-100, -100, 0), (100, -100, 0), (101, 0, 8), (-101, 0, 8), (0, 101, 8), (0, -101, 8)
+            ):
+                row = lines(60)
+                row = row[: place + 1] + [e._replace(x=e.x + dx, y=e.y + dy) for e in row[place + 1 :]]
+                self.assertEqual(refusal(row), (wanted, place if wanted else 0))
+
+    def test_9_kink(self):
+        for size, wanted in ((1_000_000, 0), (1_000_001, 9)):
+            for sign in (1, -1):
+                other = isqrt(2**60 - size * size)
+                row = [line(), line(x=1000, c=other, s=sign * size)]
+                self.assertEqual(refusal(row), (wanted, 0))
+                row = [line(c=0, s=ONE), line(y=1000, c=sign * size, s=other)]
+                self.assertEqual(refusal(row), (wanted, 0))
+
+    def test_9_after_a_curve(self):
+        # the last direction of a curve is the plane tangent at s = L, as it is
+        arc = Element(ARC, 500_000, 0, 0, ONE, 0, 1_000_000)
+        end, tangent = crest.position(arc, 500_000), crest.direction(arc, 500_000)
+        self.assertNotEqual(tangent[0] ** 2 + tangent[1] ** 2, 2**60)
+        for size, wanted in ((1_000_000, 0), (1_000_001, 9)):
+            s = tangent[1] + size
+            row = [arc, line(*end, c=isqrt(2**60 - s * s), s=s)]
+            self.assertEqual(refusal(row), (wanted, 0))
+
+    def test_8_before_9_join_by_join(self):
+        bent = dict(c=isqrt(2**60 - 2_000_000**2), s=2_000_000)
+        self.assertEqual(refusal([line(), line(x=1101, **bent)]), (8, 0))
+        self.assertEqual(refusal([line(), line(x=1000, **bent), line(x=9000, **bent)]), (9, 0))
+        self.assertEqual(refusal([line(), line(x=1000), line(x=9000), line(x=9000)]), (8, 1))
+
+    def test_join_of_all_kinds(self):
+        # entry spiral, arc, exit spiral: each starts where the one before ends
+        rng = random.Random(5)
+        file, alignment = random_file(rng, Wish(40, longest=300, gap=0, kink=0))
+        self.assertEqual({e.kind for e in alignment.elements}, {LINE, ARC, ENTRY, EXIT})
+        for earlier, later in zip(alignment.elements, alignment.elements[1:]):
+            self.assertEqual(crest.position(earlier, earlier.length), crest.position(later, 0))
+
+
+class ReaderAndWriter(unittest.TestCase):
+    def test_parts(self):
+        row = lines(60)
+        file = file_of(*row)
+        for number in range(60):
+            part = crest.read_record(file, number)
+            self.assertEqual(part[:2], (0, 0))
+            self.assertEqual(file[part.start : part.end], crest.record_of(row[number]))
+        self.assertEqual(crest.read_record(file, 15).start, 512)
+
+    def test_15_record_number(self):
+        for number, wanted in ((0, 0), (1, 15), (14, 15), (60, 15), (2**32, 15)):
+            self.assertEqual(crest.read_record(K, number).number, wanted)
+        self.assertEqual(crest.read_record(K, 1), (15, 0, 0, 0))
+        self.assertEqual(crest.read_record(K, -1), (15, 0, 0, 0))
+
+    def test_file_refused_before_15(self):
+        row = lines(20)
+        row[18] = row[18]._replace(c=0)
+        self.assertEqual(crest.read_record(raw_file(row), 99), (7, 18, 0, 0))
+        self.assertEqual(crest.read_record(b"", 0), (1, 0, 0, 0))
+
+    def test_17(self):
+        room = bytes(range(256)) * 8
+        good = records_of(lines(60))
+        for records in (b"", good[:31], good[:33], good + good[:32], good[:-1], good + b"\0"):
+            self.assertEqual(crest.write(records, room), (crest.Refusal(17), room))
+        self.assertEqual(crest.write(good[:32], room)[0], None)
+        self.assertEqual(crest.write(good, room)[0], None)
+
+    def test_writer_order_17_then_4_to_9_then_18(self):
+        row = lines(16)
+        row[15] = row[15]._replace(x=0)
+        records = records_of(row)
+        self.assertEqual(crest.write(records + b"\0", b"")[0], (17, 0))
+        self.assertEqual(crest.write(records, b"")[0], (8, 14))
+        for number, change in (
+            (4, dict(kind=0)), (5, dict(kind=9)), (6, dict(length=0)), (7, dict(c=1)), (8, dict(y=101)),
+            (9, dict(c=isqrt(2**60 - 1_000_001**2), s=1_000_001)),
+        ):
+            row = lines(16)
+            row[9] = row[9]._replace(**change)
+            place = 8 if number in (8, 9) else 9
+            room = bytes([7]) * 100
+            self.assertEqual(crest.write(records_of(row), room), (crest.Refusal(number, place), room))
+
+    def test_18_and_the_rest_of_the_room(self):
+        for count in (1, 15, 16, 60):
+            records = records_of(lines(count))
+            need = 512 * -(-count // 15)
+            for size in (0, need - 1):
+                room = bytes([171]) * size
+                self.assertEqual(crest.write(records, room), (crest.Refusal(18), room))
+            for more in (0, 1, 700, 2048):
+                found, after = crest.write(records, bytes([171]) * (need + more))
+                self.assertIsNone(found)
+                self.assertEqual(after[:need], raw_file(lines(count)))
+                self.assertEqual(after[need:], bytes([171]) * more)
+
+    def test_round_trips(self):
+        rng = random.Random(6)
+        for count in (1, 2, 15, 16, 31, 60):
+            file, alignment = random_file(rng, Wish(count, longest=1000))
+            parts = [crest.read_record(file, n) for n in range(count)]
+            records = b"".join(file[p.start : p.end] for p in parts)
+            self.assertEqual(records, records_of(alignment.elements))
+            self.assertEqual(crest.write(records, bytes(len(file))), (None, file))
+
+    def test_example_file(self):
+        wanted = bytearray(512)
+        wanted[0:28] = struct.pack("<B3xIiiiii", 1, 10_000, 0, 0, ONE, 0, 0)
+        wanted[482] = wanted[484] = 1
+        total = weighted = 0
+        for i in range(508):
+            total += wanted[i]
+            weighted += (508 - i) * wanted[i]
+        wanted[508:512] = struct.pack("<HH", total % 65_536, weighted % 65_536)
+        self.assertEqual(K, bytes(wanted))
+        # bytes 1 (kind), 16 and 39 (10,000), 64 (ONE), 1 and 1 by hand
+        self.assertEqual(total, 1 + 16 + 39 + 64 + 1 + 1)
+        self.assertEqual(weighted, 508 + 504 * 16 + 503 * 39 + 489 * 64 + 26 + 24)
+
+
+class Stations(unittest.TestCase):
+    def setUp(self):
+        self.file = file_of(line(), line(x=1100, length=5), line(x=1600, length=1))
+
+    def test_join_belongs_to_the_later(self):
+        alignment = crest.check(self.file)
+        self.assertEqual(alignment.total, 16)
+        found = [crest.element_at(alignment, s) for s in (0, 9, 10, 14, 15, 16)]
+        self.assertEqual(found, [(0, 0), (0, 9), (1, 0), (1, 4), (2, 0), (2, 1)])
+        self.assertEqual(crest.position_and_direction(self.file, 10), (0, 0, 1100, 0, ONE, 0))
+
+    def test_15_station(self):
+        for station, wanted in ((-1, 15), (0, 0), (16, 0), (17, 15), (2**70, 15)):
+            self.assertEqual(crest.position_and_direction(self.file, station).number, wanted)
+            self.assertEqual(crest.inverse(self.file, station, 0).number, wanted)
+        self.assertEqual(crest.position_and_direction(self.file, 17), (15, 0, 0, 0, 0, 0))
+
+    def test_position_outside_the_frame_is_given(self):
+        file = file_of(line(x=FRAME))
+        self.assertEqual(crest.position_and_direction(file, 10), (0, 0, FRAME + 1000, 0, ONE, 0))
+        self.assertEqual(crest.inverse(file, 0, 0), (0, 0, FRAME, 0))
+        self.assertEqual(crest.inverse(file, 1, 0), (11, 0, 0, 0))
+
+    def test_inverse_limits(self):
+        for offset, wanted in ((20_000_000, 0), (20_000_001, 15), (-20_000_000, 0), (-20_000_001, 15)):
+            self.assertEqual(crest.inverse(K, 5, offset).number, wanted)
+        high = file_of(line(y=FRAME - 300))
+        self.assertEqual(crest.inverse(high, 5, 300), (0, 0, 500, FRAME))
+        self.assertEqual(crest.inverse(high, 5, 301), (11, 0, 0, 0))
+        self.assertEqual(crest.inverse(high, 11, 301), (15, 0, 0, 0))
+        low = file_of(line(y=-FRAME, c=-ONE))
+        self.assertEqual(crest.inverse(low, 5, 0), (0, 0, -500, -FRAME))
+        self.assertEqual(crest.inverse(low, 5, 1), (11, 0, 0, 0))
+
+    def test_signs_left_and_right(self):
+        north = file_of(line(c=0, s=ONE))
+        self.assertEqual(crest.inverse(north, 5, 300), (0, 0, -300, 500))
+        self.assertEqual(crest.station_and_offset(north, -300, 512)[2:5], (5, 300, 12))
+        left = Element(ARC, 100, 0, 0, ONE, 0, 1000)
+        self.assertGreater(crest.position(left, 100)[1], 0)
+        self.assertLess(crest.position(left._replace(radius=-1000), 100)[1], 0)
+
+    def test_exit_spiral_is_the_entry_spiral_walked_back(self):
+        for radius in (1000, -1000):
+            entry = Element(ENTRY, 700, 0, 0, ONE, 0, radius)
+            leave = entry._replace(kind=EXIT)
+            for s in (0, 1, 350, 699, 700):
+                x, y = crest.position(entry, s)
+                self.assertEqual(crest.position(leave, 700 - s), (-x, y))
+                tx, ty = crest.direction(entry, s)
+                self.assertEqual(crest.direction(leave, 700 - s), (tx, -ty))
+            # left turns bend the direction towards y from a start below it
+            self.assertEqual(crest.direction(leave, 0)[1] < 0, radius > 0)
+
+
+class Points(unittest.TestCase):
+    def number(self, x, y, file=K):
+        return crest.station_and_offset(file, x, y).number
+
+    def test_11(self):
+        file = file_of(line(x=FRAME, y=FRAME, c=-ONE))
+        self.assertEqual(self.number(FRAME, FRAME, file), 0)
+        for point in ((FRAME + 1, FRAME), (FRAME, FRAME + 1), (-FRAME - 1, 0), (0, -FRAME - 1), (2**70, 0)):
+            self.assertEqual(crest.station_and_offset(file, *point), (11, 0, 0, 0, 0, 0))
+
+    def test_12_before_13_and_14(self):
+        self.assertEqual(self.number(-20_000_000, 0), 13)
+        self.assertEqual(self.number(-20_000_001, 0), 12)
+        self.assertEqual(self.number(21_000_000, 0), 14)
+        self.assertEqual(self.number(21_000_001, 0), 12)
+        self.assertEqual(self.number(500_000, -20_000_000), 0)
+        self.assertEqual(self.number(500_000, -20_000_001), 12)
+        # 12,000,000 and 16,000,000 have 20,000,000 between them
+        self.assertEqual(self.number(-12_000_000, 16_000_000), 13)
+        self.assertEqual(self.number(-12_000_000, 16_000_001), 12)
+
+    def test_13_and_14_at_the_limit(self):
+        rows = [(-100, 7, 0), (-101, 7, 13), (1_000_100, 7, 0), (1_000_101, 7, 14)]
+        for x, y, wanted in rows:
+            self.assertEqual(self.number(x, y), wanted)
+        self.assertEqual(crest.station_and_offset(K, -101, 0), (13, 0, 0, 0, 0, 0))
+
+    def test_residual_inside_is_only_reported(self):
+        # neighbours 200 grains apart at a join with a gap: residual above 100 away from the ends
+        file = file_of(line(), line(x=1100, y=100))
+        answer = crest.station_and_offset(file, 1040, -400)
+        self.assertEqual(answer[:5], (0, 0, 9, -400, 140))
+
+    def test_least_station_of_a_tie_over_elements(self):
+        # the gap goes back by 1 mm: stations 1 and 2 have the same position
+        file = file_of(line(length=2), line(x=100, length=2))
+        answer = crest.station_and_offset(file, 100, 50)
+        self.assertEqual(answer[2:5], (1, 50, 0))
+
+    def test_long_tangent_far_off(self):
+        # least D within its limit, yet the offset passes 20,000,000 and has no inverse
+        file = file_of(Element(ARC, 500_000, 0, 0, ONE, 0, -1_000_000))
+        answer = crest.station_and_offset(file, 57_531_056, 5_309_976)
+        self.assertEqual(answer[:5], (0, 0, 499_986, 20_000_384, 1_679))
+        self.assertEqual(crest.inverse(file, answer.station, answer.offset).number, 15)
+
+    def test_count(self):
+        for length, first in ((1, 2), (999, 2), (1000, 2), (1001, 3), (2000, 3), (10_000, 11), (10_001, 12)):
+            alignment = crest.check(file_of(line(length=length)))
+            self.assertEqual(len(crest.first_visits(alignment.total)), first)
+        # far off, the second pass leaves out much; refused, so no count
+        self.assertEqual(crest.station_and_offset(K, 500_000, 20_000_001).count, 0)
+
+    def test_walk_by_hand(self):
+        # two lines of 4 and 3 mm, point on station 0: 0, 1, 2, then beyond 3 to the join at 4, then out
+        alignment = crest.check(file_of(line(length=4), line(x=400, length=3)))
+        walked = crest.walk(alignment, lambda s: crest.squared_distance(alignment, (0, 0), s))
+        # at 2: 200 − 31 = 169, one left out: 4 = join; at 4: 400 − 31 = 369 div 150 = 2: 7 = T
+        self.assertEqual(walked, ([0, 7], [0, 1, 2, 4, 7], 0, 0))
+
+    def test_walk_equals_search_on_entries(self):
+        rng = random.Random(9)
+        for _ in range(25):
+            file, alignment = random_file(rng, Wish(rng.randint(1, 6), longest=100))
+            for _ in range(4):
+                point = random_point(rng, alignment)
+                judged = crest.station_judged(alignment, point)
+                walked = crest.walk(alignment, lambda s: crest.squared_distance(alignment, point, s))
+                self.assertEqual(walked.station, judged)
+
+    def test_every_entry_checks(self):
+        row = lines(5)
+        row[3] = row[3]._replace(s=ONE)
+        bad = raw_file(row)
+        self.assertEqual(crest.station_and_offset(bad, 2**80, 0), (7, 3, 0, 0, 0, 0))
+        self.assertEqual(crest.inverse(bad, -1, 0), (7, 3, 0, 0))
+        self.assertEqual(crest.position_and_direction(bad, -1), (7, 3, 0, 0, 0, 0))
+
+
+class StakeOut(unittest.TestCase):
+    def test_orders(self):
+        bad = (ONE, ONE)
+        self.assertEqual(crest.stake_out((FRAME + 1, 0), (0, 0), bad), (11, 0, 0, 0))
+        self.assertEqual(crest.stake_out((0, 0), (0, -FRAME - 1), bad), (11, 0, 0, 0))
+        self.assertEqual(crest.stake_out((FRAME, FRAME), (-FRAME, -FRAME), bad), (7, 0, 0, 0))
+
+    def test_c_call(self):
+        room = bytes(range(8))
+        self.assertEqual(crest.crest_stake_out(0, 0, 100, 200, 0, ONE, room), (0, struct.pack("<ii", 200, -100)))
+        for size in (0, 7, 9, 24):
+            found = crest.crest_stake_out(FRAME + 1, 0, 0, 0, 0, 0, bytes([9]) * size)
+            self.assertEqual(found, (18, bytes([9]) * size))
+        self.assertEqual(crest.crest_stake_out(0, FRAME + 1, 0, 0, 0, 0, room), (11, room))
+        self.assertEqual(crest.crest_stake_out(0, 0, 0, 0, 0, 0, room), (7, room))
+
+    def test_corner_to_corner_fits_i32(self):
+        rng = random.Random(3)
+        for _ in range(300):
+            c, s = random_unit(rng)
+            answer = crest.stake_out((-FRAME, -FRAME), (FRAME, FRAME), (c, s))
+            self.assertLess(max(map(abs, answer)), 2**31)
+
+    def test_halves_go_up(self):
+        c, s = 644_245_094, 858_993_459  # 3/5 and 4/5
+        self.assertTrue(crest.is_unit(c, s))
+        answer = crest.stake_out((1, 0), (0, 0), (ONE, 0))
+        self.assertEqual(answer[2:], (-1, 0))
+        self.assertEqual(crest.stake_out((0, 0), (5, 0), (c, s))[2:], (3, -4))
+
+
+class Readings(unittest.TestCase):
+    def test_whole_of_f64(self):
+        rows = [
+            (0.0, 0), (-0.0, 0), (1.0, 1), (-1.0, -1), (0.5, None), (-0.5, None), (1.5, None), (3.0, 3),
+            (2.0**52 + 0.5, 2**52), (2.0**52 - 0.5, None), (2.0**53, 2**53), (2.0**53 - 1, 2**53 - 1),
+            (2.0**63, 2**63), (-(2.0**63), -(2**63)), (2.0**64, 2**64), (1e300, int(1e300)), (5e-324, None),
+            (2.0**-1022, None), (-5e-324, None), (200_000_000.5, None), (0.1, None), (1e22, 10**22),
+        ]
+        for number, wanted in rows:
+            self.assertEqual(crest.whole_of_f64(f64_bits(number)), wanted, number)
+        for bits in (NAN, NAN | MINUS, 0x7FF0000000000001, INFINITE, INFINITE | MINUS, 2**64 - 1):
+            self.assertIsNone(crest.whole_of_f64(bits))
+        self.assertIsNone(crest.whole_of_f64((1 << 52) - 1))  # the largest subnormal
+        self.assertEqual(crest.whole_of_f64(0x7FEFFFFFFFFFFFFF), (2**53 - 1) << 971)
+
+    def test_whole_of_random_bits(self):
+        rng = random.Random(4)
+        for _ in range(20_000):
+            bits = rng.getrandbits(64)
+            if rng.randrange(2):
+                bits = bits & ~(0x7FF << 52) | rng.randint(1010, 1090) << 52
+                bits &= ~((1 << rng.randrange(53)) - 1)
+            number = struct.unpack("<d", bits.to_bytes(8, "little"))[0]
+            whole = number == number and abs(number) != float("inf") and number.is_integer()
+            self.assertEqual(crest.whole_of_f64(bits), int(number) if whole else None)
+
+    def answer(self, sort, first, second, file=K):
+        pair = [n if isinstance(n, int) else f64_bits(n) for n in (first, second)]
+        return crest.reading_answer(crest.check(file), sort(*pair))
+
+    def test_orders(self):
+        plane, place = crest.PlanePoint, crest.LinePlace
+        for sort, far in ((plane, 11), (place, 15)):
+            for bad in (NAN, INFINITE, f64_bits(0.5), f64_bits(5e-324)):
+                self.assertEqual(self.answer(sort, bad, 1e300), (10, 0, (0, 0, 0), 0, (0.0, 0.0)))
+                self.assertEqual(self.answer(sort, 1e300, bad).number, 10)
+                self.assertEqual(self.answer(sort, bad, 1.0, b"").number, 1)
+            self.assertEqual(self.answer(sort, 1e300, 0.0).number, far)
+            self.assertEqual(self.answer(sort, 0.0, -1e300).number, far)
+            self.assertEqual(self.answer(sort, 2.0**64, 0.0).number, far)  # not taken modulo 2^64
+            self.assertEqual(self.answer(sort, -0.0, -0.0).number, 0)
+        self.assertEqual(self.answer(place, 10_000.0, 2e7).number, 0)
+        self.assertEqual(self.answer(place, 10_001.0, 0.0).number, 15)
+        self.assertEqual(self.answer(place, -1.0, 0.0).number, 15)
+
+    def test_answers_and_display(self):
+        zero = (0.0, 0.0)
+        plane = self.answer(crest.PlanePoint, 512.0, 300.0)
+        self.assertEqual(plane, (0, 0, (5, 300, 12), crest.station_and_offset(K, 512, 300).count, (5.0, 3.0)))
+        self.assertEqual(self.answer(crest.LinePlace, 5.0, 300.0), (0, 0, (500, 300, 0), 0, zero))
+        self.assertEqual(self.answer(crest.PlanePoint, -101.0, 0.0), (13, 0, (0, 0, 0), 0, zero))
+        self.assertEqual(crest.display_pair(30_000_000, -1), (30_000_000.0, -0.01))
+        self.assertEqual(f64_bits(crest.display_pair(0, 0)[1]), 0)
+        self.assertEqual(f64_bits(crest.display_pair(0, 7)[1]), f64_bits(0.07))
+
+
+class Runs(unittest.TestCase):
+    answered = crest.ReadingAnswer(0, 0, (1, -2, 3))
+
+    def refused(self, number):
+        return crest.ReadingAnswer(number, 5)
+
+    def test_history(self):
+        run = crest.FRESH
+        self.assertEqual(crest.bytes_of_run(run), bytes(24))
+        run = crest.run_after(run, self.answered)
+        self.assertEqual(run, (1, 0, 0, 0, 0, 0, (1, -2, 3)))
+        run = crest.run_after(run, self.refused(13))
+        self.assertEqual(run, (1, 1, 13, 13, 2, 0, (0, 0, 0)))
+        run = crest.run_after(run, self.refused(10))
+        self.assertEqual(run, (1, 2, 10, 13, 2, 0, (0, 0, 0)))
+        run = crest.run_after(run, self.answered)
+        self.assertEqual(run, (2, 2, 0, 13, 2, 0, (1, -2, 3)))
+        run = crest.acknowledged(run)
+        self.assertEqual(run, (2, 2, 0, 0, 0, 0, (1, -2, 3)))
+        run = crest.run_after(run, self.refused(12))
+        self.assertEqual(run, (2, 3, 12, 12, 5, 0, (0, 0, 0)))
+
+    def test_c_history(self):
+        value, run = crest.crest_plane_reading(K, f64_bits(512.0), f64_bits(300.0), bytes(24))
+        self.assertEqual((value, struct.unpack("<6H3i", run)), (0, (1, 0, 0, 0, 0, 0, 5, 300, 12)))
+        value, run = crest.crest_plane_reading(K, f64_bits(-101.0), 0, run)
+        self.assertEqual((value, struct.unpack("<6H3i", run)), (13, (1, 1, 13, 13, 2, 0, 0, 0, 0)))
+        value, run = crest.crest_line_reading(K, f64_bits(5.0), f64_bits(300.0), run)
+        self.assertEqual((value, struct.unpack("<6H3i", run)), (0, (2, 1, 0, 13, 2, 0, 500, 300, 0)))
+        row = lines(20)
+        row[18] = row[18]._replace(c=0)
+        value, run = crest.crest_line_reading(raw_file(row), NAN, NAN, run)
+        self.assertEqual((value, struct.unpack("<6H3i", run)), (7 + 256 * 18, (2, 2, 7, 13, 2, 0, 0, 0, 0)))
+        value, run = crest.crest_acknowledge(run)
+        self.assertEqual((value, struct.unpack("<6H3i", run)), (0, (2, 2, 7, 0, 0, 0, 0, 0, 0)))
+        value, run = crest.crest_plane_reading(K, f64_bits(0.5), NAN, run)
+        self.assertEqual((value, struct.unpack("<6H3i", run)), (10, (2, 3, 10, 10, 5, 0, 0, 0, 0)))
+
+    def test_18(self):
+        for size in (0, 23, 25, 48):
+            run = bytes([200]) * size
+            self.assertEqual(crest.crest_plane_reading(b"", NAN, NAN, run), (18, run))
+            self.assertEqual(crest.crest_line_reading(b"", NAN, NAN, run), (18, run))
+            self.assertEqual(crest.crest_acknowledge(run), (18, run))
+
+    def test_16_at_the_limit(self):
+        for answered, refused in ((65_535, 0), (0, 65_535), (1, 65_534), (65_535, 65_535), (65_535, 1)):
+            run = struct.pack("<6H3i", answered, refused, 3, 0, 9, 77, -1, 2, -3)
+            self.assertEqual(crest.crest_plane_reading(b"", NAN, 0, run), (16, run))
+            self.assertEqual(crest.crest_line_reading(K, 0, 0, run), (16, run))
+        run = struct.pack("<6H3i", 65_534, 0, 3, 0, 9, 77, -1, 2, -3)
+        value, after = crest.crest_plane_reading(K, NAN, 0, run)
+        self.assertEqual((value, struct.unpack("<6H3i", after)), (10, (65_534, 1, 10, 10, 65_535, 77, 0, 0, 0)))
+        run = struct.pack("<6H3i", 65_534, 0, 3, 0, 9, 77, -1, 2, -3)
+        value, after = crest.crest_line_reading(K, 0, 0, run)
+        self.assertEqual((value, struct.unpack("<6H3i", after)), (0, (65_535, 0, 0, 0, 9, 77, 0, 0, 0)))
+        self.assertEqual(crest.crest_line_reading(K, 0, 0, after), (16, after))
+        # a full run can be acknowledged
+        full = struct.pack("<6H3i", 65_535, 65_535, 3, 8, 9, 77, -1, 2, -3)
+        self.assertEqual(
+            crest.crest_acknowledge(full), (0, struct.pack("<6H3i", 65_535, 65_535, 3, 0, 0, 77, -1, 2, -3))
+        )
+
+    def test_other_bytes_are_taken_as_they_spell(self):
+        rng = random.Random(8)
+        for _ in range(500):
+            run = rng.randbytes(24)
+            if rng.randrange(2):  # counts that leave room
+                run = struct.pack("<HH", rng.randrange(30_000), rng.randrange(30_000)) + run[4:]
+            if rng.randrange(2):
+                run = run[:6] + bytes(2) + run[8:]
+            self.assertEqual(crest.bytes_of_run(crest.run_of(run)), run)
+            value, after = crest.crest_plane_reading(K, f64_bits(-101.0), 0, run)
+            self.assertEqual(after[10:12], run[10:12])
+            answered, refused, _, first, reading, spare = struct.unpack("<6H", run[:12])
+            if answered + refused >= 65_535:
+                self.assertEqual((value, after), (16, run))
+                continue
+            if first == 0:
+                first, reading = 13, answered + refused + 1
+            wanted = struct.pack("<6H3i", answered, refused + 1, 13, first, reading, spare, 0, 0, 0)
+            self.assertEqual((value, after), (13, wanted))
+            after = crest.crest_acknowledge(run)[1]
+            self.assertEqual((after[:6], after[6:10], after[10:]), (run[:6], bytes(4), run[10:]))
+
+    def test_counting_to_the_full_run(self):
+        run = crest.FRESH
+        for number in range(65_535):
+            outcome, run = crest.take_reading(run, crest.Refusal(1), crest.PlanePoint(0, 0))
+        self.assertEqual(run, (0, 65_535, 1, 1, 1, 0, (0, 0, 0)))
+        outcome, after = crest.take_reading(run, crest.check(K), crest.PlanePoint(0, 0))
+        self.assertEqual((outcome, after), ((16, 0, (0, 0, 0), 0, (0.0, 0.0)), run))
+
+
+class CValues(unittest.TestCase):
+    def test_check(self):
+        self.assertEqual(crest.crest_check(K), 0)
+        self.assertEqual(crest.crest_check(b""), 1)
+        four = file_of(*lines(60))
+        self.assertEqual(crest.crest_check(patched(four, 1536, [9])), 2 + 256 * 3)
+        row = lines(60)
+        row[59] = row[59]._replace(x=0)
+        self.assertEqual(crest.crest_check(raw_file(row)), 8 + 256 * 58)
+
+    def test_write(self):
+        room = bytes([5]) * 600
+        self.assertEqual(crest.crest_write(K[:32], room), (0, K + room[512:]))
+        self.assertEqual(crest.crest_write(K[:32], room[:511]), (18, room[:511]))
+        self.assertEqual(crest.crest_write(K[:31], room), (17, room))
+        row = lines(3)
+        row[2] = row[2]._replace(kind=15)
+        self.assertEqual(crest.crest_write(records_of(row), room), (5 + 256 * 2, room))
+
+
+class Program(unittest.TestCase):
+    def test_no_readings(self):
+        for tail in (b"", bytes(15)):
+            wanted = "reading station offset residual\nanswered 0 refused 0 first none\n"
+            self.assertEqual(crest.program_text(K, tail), wanted)
+
+    def test_no_refusal_and_a_tail(self):
+        readings = struct.pack("<4d", 512, 300, -0.0, -7) + bytes(9)
+        wanted = "reading station offset residual\n1 5 300 12\n2 0 -7 0\nanswered 2 refused 0 first none\n"
+        self.assertEqual(crest.program_text(K, readings), wanted)
+
+    def test_refused_crest(self):
+        wanted = "reading station offset residual\n1 refused 1\n2 refused 1\nanswered 0 refused 2 first 1 1\n"
+        self.assertEqual(crest.program_text(b"", struct.pack("<4d", 0, 0, 0.5, 0)), wanted)
+
+    def test_full_run(self):
+        text = crest.program_text(b"", bytes(16 * 65_537)).splitlines()
+        self.assertEqual(text[65_535:], [
+            "65535 refused 1", "65536 refused 16", "65537 refused 16", "answered 0 refused 65535 first 1 1"
+        ])
+
+
+class Series(unittest.TestCase):
+    """The 2-grain bound against the exact three-term sums, and the spacing of stations."""
+
+    @staticmethod
+    def exact(element, s):
+        """u and v (U and V on a spiral) as fractions."""
+        length, radius = element.length, element.radius
+        if element.kind == ARC:
+            q = Fraction(s, radius) ** 2
+            return (
+                100 * s * (1 - q / 6 + q * q / 120),
+                50 * s * Fraction(s, radius) * (1 - q / 12 + q * q / 360),
+            )
+        l = length - s if element.kind == EXIT else s
+        tau = Fraction(l * l, 2 * radius * length)
+        q = tau * tau
+        return (
+            100 * l * (1 - q / 10 + q * q / 216),
+            100 * l * tau * (1 - q / 14 + q * q / 440) / 3,
+        )
+
+    @staticmethod
+    def samples():
+        rng = random.Random(7)
+        for kind in (ARC, ENTRY, EXIT):
+            for sign in (1, -1):
+                for length in (1, 2, 3, 999, 123_457, 499_999, 500_000):
+                    least = 2 * length if kind == ARC else length
+                    for size in {least, least + 1, 3 * least, 10_000_000}:
+                        element = Element(kind, length, 0, 0, ONE, 0, sign * min(size, 10_000_000))
+                        for s in {0, 1, length // 3, length // 2, length - 1, length}:
+                            yield element, s
+                for _ in range(700):
+                    length = rng.randint(1, rng.choice((50, 5_000, 500_000)))
+                    least = 2 * length if kind == ARC else length
+                    size = rng.randint(least, rng.choice((2 * least, 10_000_000)))
+                    element = Element(kind, length, 0, 0, ONE, 0, sign * min(size, 10_000_000))
+                    yield element, rng.randint(0, length)
+
+    def test_two_grains(self):
+        seen = 0
+        worst = 0
+        for element, s in self.samples():
+            u, v = crest.own_position(element, s)
+            if element.kind == EXIT:
+                u = -u
+            exact_u, exact_v = self.exact(element, s)
+            seen += 1
+            worst = max(worst, abs(u - exact_u), abs(v - exact_v))
+        self.assertGreater(seen, 4000)
+        self.assertLessEqual(worst, 2)
+
+    def test_neighbours_lie_within_the_pace(self):
+        rng = random.Random(2)
+        for element, s in self.samples():
+            if s == element.length:
+                continue
+            c, sine = random_unit(rng)
+            element = element._replace(c=c, s=sine)
+            (x, y), (x2, y2) = crest.position(element, s), crest.position(element, s + 1)
+            self.assertLess((x - x2) ** 2 + (y - y2) ** 2, crest.STEP_PACE**2)
+
+
+if __name__ == "__main__":
+    unittest.main()

@@ -1,0 +1,94 @@
+-- An order of refusals has one outcome: the refusal of the first rule that does not hold, or none where all hold.
+use Prim.Native.Nat.{ℕ, zero, suc, _+_, _≤_, _<_}
+use mathlib.Core.Bool.{Bool, true, false}
+use mathlib.Core.List.{List, [], _∷_, _++_}
+use mathlib.Core.Logic.{_⊎_, inl, inr}
+use mathlib.Core.Path.{_≡_, refl, sym, _∙_, ap}
+use native.Mathlib.Omega.{arith}
+use Rattle.model.specs.declared.Refusal.{Refusal}
+use Rattle.model.specs.declared.Outcome.{Outcome}
+use Rattle.model.specs.declared.Outcome.the-variants.{Done, Refused}
+use Rattle.model.specs.Refusals.{Reason, Rule, rule, refusal, orRefused, verdict}
+use Rattle.model.specs.Acceptance.{checked, crestRules}
+
+-- every rule of the list holds
+pub data AllHold : List Rule → Type 0 where
+  none : AllHold []
+  more : {r : Rule} {rs : List Rule} → r .holds ≡ true → AllHold rs → AllHold (r ∷ rs)
+
+-- r is the first rule of the list that does not hold: those before it do
+pub record FirstFailing (rs : List Rule) (r : Rule) : Type 0 where
+  pub before : List Rule
+  pub after : List Rule
+  pub split : rs ≡ before ++ (r ∷ after)
+  pub hold : AllHold before
+  pub fails : r .holds ≡ false
+
+step : (b : Bool) (why : Reason) (place : ℕ) (o : Outcome) → orRefused b why place o ≡ Done → (b ≡ true) × (o ≡ Done)
+unfolding orRefused
+step true why place o e = (refl, e)
+step false why place o e = let z : _≡_ {A = ℕ} 0 1 = cc in absurd (omega arith)
+
+pub done→all : (rs : List Rule) → verdict rs ≡ Done → AllHold rs
+unfolding verdict
+done→all [] e = none
+done→all (r ∷ rs) e = let s = step (r .holds) (r .why) (r .place) (verdict rs) e in more (s .0) (done→all rs (s .1))
+
+pub all→done : {rs : List Rule} → AllHold rs → verdict rs ≡ Done
+unfolding verdict orRefused
+all→done none = refl
+all→done (more {r} {rs} h a) = ap (λ b. orRefused b (r .why) (r .place) (verdict rs)) h ∙ all→done a
+
+-- The outcome of the first rule that does not hold is its refusal.
+pub first→refused : {rs : List Rule} {r : Rule} → FirstFailing rs r → verdict rs ≡ Refused (refusal (r .why) (r .place))
+unfolding verdict orRefused
+first→refused {rs} {r} f = ap verdict (f .split) ∙ go (f .before) (f .hold)
+  where
+    go : (bs : List Rule) → AllHold bs → verdict (bs ++ (r ∷ f .after)) ≡ Refused (refusal (r .why) (r .place))
+    go [] none = ap (λ b. orRefused b (r .why) (r .place) (verdict (f .after))) (f .fails)
+    go (b ∷ bs) (more h a) = ap (λ x. orRefused x (b .why) (b .place) (verdict (bs ++ (r ∷ f .after)))) h ∙ go bs a
+
+-- a refusal comes from some rule: the first that does not hold
+pub record Cause (rs : List Rule) (why : Refusal) : Type 0 where
+  pub rule : Rule
+  pub first : FirstFailing rs rule
+  pub gives : why ≡ refusal (rule .why) (rule .place)
+
+later : {r : Rule} {rs : List Rule} {why : Refusal} → r .holds ≡ true → Cause rs why → Cause (r ∷ rs) why
+later {r} h c =
+    record {
+      rule = c .rule;
+      first = record {
+        before = r ∷ c .first .before;
+        after = c .first .after;
+        split = ap (λ l. r ∷ l) (c .first .split);
+        hold = more h (c .first .hold);
+        fails = c .first .fails;
+      };
+      gives = c .gives;
+    }
+
+here : (r : Rule) (rs : List Rule) (why : Refusal) → r .holds ≡ false → Refused (refusal (r .why) (r .place)) ≡ Refused why → Cause (r ∷ rs) why
+here r rs why h e =
+    record { rule = r; first = record { before = []; after = rs; split = refl; hold = none; fails = h }; gives = cc }
+
+pub refused→first : (rs : List Rule) (why : Refusal) → verdict rs ≡ Refused why → Cause rs why
+unfolding verdict orRefused
+refused→first [] why e = let z : _≡_ {A = ℕ} 0 1 = cc in absurd (omega arith)
+refused→first (r ∷ rs) why e = go (λ d. refused→first rs why d) (r .holds) refl
+  where
+    at : (b : Bool) → r .holds ≡ b → orRefused b (r .why) (r .place) (verdict rs) ≡ Refused why
+    at b h = sym (ap (λ x. orRefused x (r .why) (r .place) (verdict rs)) h) ∙ e
+
+    go : (verdict rs ≡ Refused why → Cause rs why) → (b : Bool) → r .holds ≡ b → Cause (r ∷ rs) why
+    go rest true h = later h (rest (at true h))
+    go rest false h = here r rs why h (at false h)
+
+-- Every list of bytes has one outcome: it is accepted where all rules hold, and else refused by the first that does not.
+pub crest-outcome : (file : List ℕ) → (checked file ≡ Done × AllHold (crestRules file)) ⊎ ((why : Refusal) × (checked file ≡ Refused why) × Cause (crestRules file) why)
+unfolding checked
+crest-outcome file = go (verdict (crestRules file)) refl
+  where
+    go : (o : Outcome) → verdict (crestRules file) ≡ o → (checked file ≡ Done × AllHold (crestRules file)) ⊎ ((why : Refusal) × (checked file ≡ Refused why) × Cause (crestRules file) why)
+    go Done e = inl (e, done→all (crestRules file) e)
+    go (Refused why) e = inr (why, e, refused→first (crestRules file) why e)

@@ -1,21 +1,184 @@
--- Division that rounds down: floorDiv n d is the one q with q · d ≤ n < (q + 1) · d; it grows with n; and it is what the machine's shift right gives.
+-- Division that rounds down: floorDiv n d is the one q with d · q ≤ n < d · (q + 1), from which its laws follow. The machine's shift right is that quotient,
+-- and so is the machine's division, less 1 where the remainder is negative.
 use mathlib.Core.Path.{_≡_, refl, sym, _∙_, ap, subst}
-use mathlib.Core.Logic.{_⊎_, inl, inr, ⊎-elim}
-use Prim.Native.Nat.{ℕ, zero, suc, _+_, _*_, _/_, _%_, _<_, _≤_, _^_}
+use mathlib.Core.Logic.{⊎-elim}
+use Prim.Native.Nat.{ℕ, suc, _+_, _*_, _/_, _%_, _<_, _≤_, suc-le-suc}
 use native.Mathlib.Omega.{arith}
-use native.Mathlib.Nat.{div-add-mod', mod-lt}
-use lib.IntN.{ℤ, pos, negsuc, negℤ, natAbs, _+ℤ_, _-ℤ_, _*ℤ_}
-use lib.Signed.{_≤ℤ_, _<ℤ_, shrZ, quotZ, remZ, mag, mag-shr}
-use mir.Syntax.{Width, w64}
+use native.Mathlib.Nat.{mul-one, mul-suc, mul-pos, div-add-mod, mod-lt, div-le-self, div-mul-le-self, le-div-iff-mul-le, div-div-eq-div-mul}
+use lib.IntN.{ℤ, pos, negsuc, negℤ, natAbs, _+ℤ_, _-ℤ_, _*ℤ_, +ℤ-idr, negℤ-+ℤ, -ℤ-+ℤ-cancel}
+use lib.Signed.{_≤ℤ_, _<ℤ_, clashℤ, shrZ, quotZ, remZ, mag, mag-shr}
+use mir.Syntax.{Width}
 use mir.Val.{SFits, toZ, ofZ}
 use mir.ValLaws.{toZ-ofZ, sfits-le}
-use Rattle.integers.specs.Floor.{floorDiv}
+use Rattle.integers.specs.Floor.{floorDiv, IsFloor}
+use Rattle.integers.proofs.Ring.{*ℤ-add, *ℤ-neg, *ℤ-assoc}
+use Rattle.integers.proofs.Order.{order, sum, negation, parts, ≤ℤ-trans, ≤ℤ-<ℤ-trans, ≤ℤ-total, ≤ℤ-mul-left, 0≤-pos, pos-<}
+
+-- ---- the bounds
+
+-- d · (q + 1) is d above d · q, by which the bounds are linear in d · q
+pub next-multiple : (d : ℕ) (q : ℤ) → pos d *ℤ (q +ℤ pos 1) ≡ pos d *ℤ q +ℤ pos d
+next-multiple d q = *ℤ-add (pos d) q (pos 1) ∙ ap (λ x. pos d *ℤ q +ℤ pos x) (mul-one d)
+
+-- a factor in common is left out
+pub <ℤ-cancel : {a b : ℤ} (d : ℕ) → (pos d *ℤ a) <ℤ (pos d *ℤ b) → a <ℤ b
+<ℤ-cancel {a} {b} d h = ⊎-elim (λ k. clashℤ h (≤ℤ-mul-left (pos d) (0≤-pos d) k)) (λ k. k) (≤ℤ-total b a)
+
+-- and a factor is put in
+pub <ℤ-mul : {a b : ℤ} {d : ℕ} → 0 < d → a <ℤ b → (pos d *ℤ a) <ℤ (pos d *ℤ b)
+<ℤ-mul {a} {b} {d} h l =
+    let k : (pos d *ℤ (a +ℤ pos 1)) ≤ℤ (pos d *ℤ b) = ≤ℤ-mul-left {a = a +ℤ pos 1} {b = b} (pos d) (0≤-pos d) (omega (order, sum a (pos 1))) in
+    omega (order, next-multiple d a, sum (pos d *ℤ a) (pos d))
+
+pub from-bounds : {n q : ℤ} {d : ℕ} → (pos d *ℤ q) ≤ℤ n → n <ℤ (pos d *ℤ q +ℤ pos d) → IsFloor n d q
+from-bounds {n} {q} {d} l h = record { low = l; high = subst (λ x. n <ℤ x) (sym (next-multiple d q)) h }
+
+pub with-remainder : {n q r : ℤ} {d : ℕ} → pos d *ℤ q +ℤ r ≡ n → pos 0 ≤ℤ r → r <ℤ pos d → IsFloor n d q
+with-remainder {n} {q} {r} {d} e l h =
+    let s = sum (pos d *ℤ q) r in
+    from-bounds (omega (order, e, s)) (omega (order, e, s, sum (pos d *ℤ q) (pos d)))
+
+pub floor-is : (n : ℤ) {d : ℕ} → 0 < d → IsFloor n d (floorDiv n d)
+unfolding floorDiv
+floor-is (pos n) {d} h = with-remainder (ap pos (div-add-mod n d)) (0≤-pos (n % d)) (pos-< (mod-lt n h))
+floor-is (negsuc n) {d} h =
+    let a = negation (pos (d * suc (n / d))) in
+    let e = mul-suc d (n / d) in
+    from-bounds
+    (omega (order, div-add-mod n d, mod-lt n h, a, e))
+    (omega (order, div-add-mod n d, a, e, sum (pos d *ℤ negsuc (n / d)) (pos d)))
+
+-- ---- laws, for a divisor above 0
+
+module _ {d : ℕ} (h : 0 < d) where
+  pub floor-low : (n : ℤ) → (pos d *ℤ floorDiv n d) ≤ℤ n
+  floor-low n = floor-is n h .low
+
+  pub floor-high : (n : ℤ) → n <ℤ (pos d *ℤ (floorDiv n d +ℤ pos 1))
+  floor-high n = floor-is n h .high
+
+  -- the quotient is at least what times d is at most n, and below what times d is above n
+  pub ≤-floor : {n k : ℤ} → (pos d *ℤ k) ≤ℤ n → k ≤ℤ floorDiv n d
+  ≤-floor {n} {k} l =
+      let a : k <ℤ (floorDiv n d +ℤ pos 1) = <ℤ-cancel d (≤ℤ-<ℤ-trans l (floor-high n)) in
+      omega (order, sum (floorDiv n d) (pos 1))
+
+  pub floor-< : {n k : ℤ} → n <ℤ (pos d *ℤ k) → floorDiv n d <ℤ k
+  floor-< {n} l = <ℤ-cancel d (≤ℤ-<ℤ-trans (floor-low n) l)
+
+  pub floor-unique : {n q : ℤ} → IsFloor n d q → q ≡ floorDiv n d
+  floor-unique {n} {q} f =
+      let a : q ≤ℤ floorDiv n d = ≤-floor (f .low) in
+      let b : floorDiv n d <ℤ (q +ℤ pos 1) = floor-< (f .high) in
+      omega (order, sum q (pos 1))
+
+  pub floor-mono : {m n : ℤ} → m ≤ℤ n → floorDiv m d ≤ℤ floorDiv n d
+  floor-mono {m} l = ≤-floor (≤ℤ-trans (floor-low m) l)
+
+  pub floor-multiple : (k : ℤ) → floorDiv (pos d *ℤ k) d ≡ k
+  floor-multiple k = sym (floor-unique (with-remainder (+ℤ-idr (pos d *ℤ k)) (0≤-pos 0) (pos-< h)))
+
+  pub floor-add-multiple : (n k : ℤ) → floorDiv (n +ℤ pos d *ℤ k) d ≡ floorDiv n d +ℤ k
+  floor-add-multiple n k =
+      let q = floorDiv n d in
+      let e = *ℤ-add (pos d) q k in
+      let f = next-multiple d q in
+      let s = sum (pos d *ℤ q) (pos d *ℤ k) in
+      let t = sum n (pos d *ℤ k) in
+      sym
+      (floor-unique
+      (from-bounds
+      (omega (order, floor-low n, e, s, t))
+      (omega (order, floor-high n, e, f, s, t, sum (pos d *ℤ (q +ℤ k)) (pos d), sum (pos d *ℤ q) (pos d)))))
+
+  pub natAbs-floor-quotient : (n : ℤ) → natAbs (floorDiv n d) ≤ natAbs n / d + 1
+  unfolding floorDiv
+  natAbs-floor-quotient (pos n) = omega arith
+  natAbs-floor-quotient (negsuc n) =
+      let k : n / d ≤ suc n / d = le-div-iff-mul-le h .1 (omega (arith, div-mul-le-self n d)) in
+      omega arith
+
+pub floor-scale : {k d : ℕ} → 0 < k → 0 < d → (n : ℤ) → floorDiv (pos k *ℤ n) (k * d) ≡ floorDiv n d
+floor-scale {k} {d} l h n =
+    let assoc : (x : ℤ) → pos k *ℤ (pos d *ℤ x) ≡ pos (k * d) *ℤ x = λ x. sym (*ℤ-assoc (pos k) (pos d) x) in
+    sym
+    (floor-unique (mul-pos l h)
+    (record {
+      low = subst (λ x. x ≤ℤ (pos k *ℤ n)) (assoc (floorDiv n d)) (≤ℤ-mul-left (pos k) (0≤-pos k) (floor-low h n));
+      high = subst (λ x. (pos k *ℤ n) <ℤ x) (assoc (floorDiv n d +ℤ pos 1)) (<ℤ-mul l (floor-high h n));
+    }))
+
+-- ---- laws for every divisor
+
+module _ (d : ℕ) where
+  pub floor-floor : (n : ℤ) (e : ℕ) → floorDiv (floorDiv n d) e ≡ floorDiv n (d * e)
+  unfolding floorDiv
+  floor-floor (pos n) e = ap pos (div-div-eq-div-mul n d e)
+  floor-floor (negsuc n) e = ap negsuc (div-div-eq-div-mul n d e)
+
+  pub 0≤-floor : {n : ℤ} → pos 0 ≤ℤ n → pos 0 ≤ℤ floorDiv n d
+  unfolding floorDiv
+  0≤-floor {n = pos n} h = 0≤-pos (n / d)
+  0≤-floor {n = negsuc n} h = absurd (h .le)
+
+  pub floor-<0 : {n : ℤ} → n <ℤ pos 0 → floorDiv n d <ℤ pos 0
+  unfolding floorDiv
+  floor-<0 {n = pos n} h = absurd (omega order)
+  floor-<0 {n = negsuc n} h = record { lt = tt }
+
+  pub natAbs-floor : (n : ℤ) → natAbs (floorDiv n d) ≤ natAbs n
+  unfolding floorDiv
+  natAbs-floor (pos n) = div-le-self n d
+  natAbs-floor (negsuc n) = suc-le-suc (div-le-self n d)
+
+-- ---- the machine's division, which rounds toward zero
+
+pub quot-rem : (n : ℤ) (d : ℕ) → pos d *ℤ quotZ n (pos d) +ℤ remZ n (pos d) ≡ n
+quot-rem (pos n) d = ap pos (div-add-mod n d)
+quot-rem (negsuc n) d =
+    let q : ℕ = suc n / d in
+    let r : ℕ = suc n % d in
+    ap (λ x. x +ℤ negℤ (pos r)) (*ℤ-neg (pos d) (pos q)) ∙ sym (negℤ-+ℤ (pos (d * q)) (pos r)) ∙ ap (λ x. negℤ (pos x)) (div-add-mod (suc n) d)
+
+pub rem-low : (n : ℤ) {d : ℕ} → 0 < d → negℤ (pos d) <ℤ remZ n (pos d)
+rem-low (pos n) {d} h = omega (order, negation (pos d))
+rem-low (negsuc n) {d} h = omega (order, mod-lt (suc n) h, negation (pos d), negation (pos (suc n % d)))
+
+pub rem-high : (n : ℤ) {d : ℕ} → 0 < d → remZ n (pos d) <ℤ pos d
+rem-high (pos n) h = pos-< (mod-lt n h)
+rem-high (negsuc n) {d} h = omega (order, negation (pos (suc n % d)))
+
+module _ (n : ℤ) {d : ℕ} (h : 0 < d) where
+  pub floor-quot : pos 0 ≤ℤ remZ n (pos d) → floorDiv n d ≡ quotZ n (pos d)
+  floor-quot l = sym (floor-unique h (with-remainder (quot-rem n d) l (rem-high n h)))
+
+  pub floor-quot-less : remZ n (pos d) <ℤ pos 0 → floorDiv n d ≡ quotZ n (pos d) -ℤ pos 1
+  floor-quot-less l =
+      let q : ℤ = quotZ n (pos d) in
+      let r : ℤ = remZ n (pos d) in
+      let e : pos d *ℤ q ≡ pos d *ℤ (q -ℤ pos 1) +ℤ pos d = ap (λ x. pos d *ℤ x) (sym (-ℤ-+ℤ-cancel q (pos 1))) ∙ next-multiple d (q -ℤ pos 1) in
+      let s = sum (pos d *ℤ q) r in
+      let t = sum (pos d *ℤ (q -ℤ pos 1)) (pos d) in
+      sym
+      (floor-unique h
+      (from-bounds
+      (omega (order, quot-rem n d, e, s, t, rem-low n h, negation (pos d)))
+      (omega (order, quot-rem n d, e, s, t))))
+
+pub mag-quot : (n : ℤ) (d : ℕ) → mag (quotZ n (pos d)) ≤ mag n
+mag-quot (pos n) d = div-le-self n d
+mag-quot (negsuc n) d = omega (arith, parts (negℤ (pos (suc n / d))), negation (pos (suc n / d)), div-le-self (suc n) d)
+
+-- ---- the machine's shift
 
 -- The machine's shift right is division by a power of two that rounds down.
 pub shift-floor : (n : ℤ) (d : ℕ) → shrZ n d ≡ floorDiv n d
 unfolding floorDiv
 shift-floor (pos n) d = refl
 shift-floor (negsuc n) d = refl
+
+pub mag-floor : (n : ℤ) (d : ℕ) → mag (floorDiv n d) ≤ mag n
+mag-floor n d = rw (← shift-floor) (mag-shr n d)
 
 -- what a shift of an argument leaves
 pub shifted : (w : Width) (n : ℤ) (d : ℕ) → SFits w n → toZ w (ofZ w (shrZ (toZ w (ofZ w n)) d)) ≡ floorDiv n d

@@ -8,5 +8,6 @@ pub mod Linear
 pub mod Ranges
 pub mod Machine
 pub mod Floor
+pub mod Root
 pub mod Plane
 mod Shown

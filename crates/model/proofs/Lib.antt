@@ -1,5 +1,7 @@
 -- What is proved about the definitions.
+pub mod Rounding
 pub mod Verdict
+pub mod Accepted
 pub mod Judged
 pub mod Examples
 pub mod WrongPrograms

@@ -4,7 +4,7 @@ use lib.IntN.{ℤ, pos, negℤ, natAbs, _+ℤ_, _-ℤ_, _*ℤ_, pow}
 use Rattle.model.specs.declared.Kind.{Kind}
 use Rattle.model.specs.declared.Kind.the-variants.{Line, Arc, EntrySpiral, ExitSpiral}
 use Rattle.model.specs.declared.Element.{Element}
-use Rattle.model.specs.Series.{signedBy, lengthAt}
+use Rattle.model.specs.Series.{Local, signedBy, lengthAt, localAt}
 
 -- the fraction numerator / denominator, with a denominator above 0
 pub record Fraction : Type 0 where
@@ -33,27 +33,38 @@ unfoldable pub asideSum : ℕ → ℕ → ℕ → ℕ → ℤ → ℕ → Fracti
 unfolding threeTerms
 asideSum k a b z m q = fraction (pos (100 * z) *ℤ m *ℤ threeTerms a b m q) (k * (a * b * q ^ 5))
 
--- φ or τ as a fraction m/q: "arc, φ = s/R", "spiral, τ = l²/(2RL)"
-unfoldable pub arcTurn : ℤ → ℕ → Fraction
+-- φ or τ as a fraction m/q: "arc, φ = s/R", "spiral, τ = l²/(2RL)"; a line does not turn.
+unfoldable pub turnOf : Kind → ℤ → ℕ → ℕ → Fraction
 unfolding signedBy
-arcTurn radius s = fraction (signedBy radius s) (natAbs radius)
-
-unfoldable pub spiralTurn : ℤ → ℕ → ℕ → Fraction
-unfolding signedBy
-spiralTurn radius length l = fraction (signedBy radius (l * l)) (2 * natAbs radius * length)
+turnOf Line radius length l = fraction (pos 0) 1
+turnOf Arc radius length l = fraction (signedBy radius l) (natAbs radius)
+turnOf EntrySpiral radius length l = fraction (signedBy radius (l * l)) (2 * natAbs radius * length)
+turnOf ExitSpiral radius length l = fraction (signedBy radius (l * l)) (2 * natAbs radius * length)
 
 -- "arc ..: u 100s(1 − φ²/6 + φ⁴/120)", "spiral ..: U 100l(1 − τ²/10 + τ⁴/216)"; on a line u is 100s.
-unfoldable pub exactAlong : Kind → ℤ → ℕ → ℕ → Fraction
-unfolding alongSum arcTurn spiralTurn
-exactAlong Line radius length l = fraction (pos (100 * l)) 1
-exactAlong Arc radius length l = let φ = arcTurn radius l in alongSum 6 120 l (φ .numerator) (φ .denominator)
-exactAlong EntrySpiral radius length l = let τ = spiralTurn radius length l in alongSum 10 216 l (τ .numerator) (τ .denominator)
-exactAlong ExitSpiral radius length l = let τ = spiralTurn radius length l in alongSum 10 216 l (τ .numerator) (τ .denominator)
+unfoldable pub exactAlong : Kind → ℕ → Fraction → Fraction
+unfolding alongSum
+exactAlong Line l φ = fraction (pos (100 * l)) 1
+exactAlong Arc l φ = alongSum 6 120 l (φ .numerator) (φ .denominator)
+exactAlong EntrySpiral l τ = alongSum 10 216 l (τ .numerator) (τ .denominator)
+exactAlong ExitSpiral l τ = alongSum 10 216 l (τ .numerator) (τ .denominator)
 
 -- "v 50sφ(1 − φ²/12 + φ⁴/360)", "V 100lτ(1 − τ²/14 + τ⁴/440)/3"; on a line v is 0.
-unfoldable pub exactAside : Kind → ℤ → ℕ → ℕ → Fraction
-unfolding asideSum arcTurn spiralTurn
-exactAside Line radius length l = fraction (pos 0) 1
-exactAside Arc radius length l = let φ = arcTurn radius l in asideSum 2 12 360 l (φ .numerator) (φ .denominator)
-exactAside EntrySpiral radius length l = let τ = spiralTurn radius length l in asideSum 3 14 440 l (τ .numerator) (τ .denominator)
-exactAside ExitSpiral radius length l = let τ = spiralTurn radius length l in asideSum 3 14 440 l (τ .numerator) (τ .denominator)
+unfoldable pub exactAside : Kind → ℕ → Fraction → Fraction
+unfolding asideSum
+exactAside Line l φ = fraction (pos 0) 1
+exactAside Arc l φ = asideSum 2 12 360 l (φ .numerator) (φ .denominator)
+exactAside EntrySpiral l τ = asideSum 3 14 440 l (τ .numerator) (τ .denominator)
+exactAside ExitSpiral l τ = asideSum 3 14 440 l (τ .numerator) (τ .denominator)
+
+-- u, but U on a spiral: "u and v (on a spiral U and V)"
+unfoldable pub unsignedAlong : Kind → Local → ℤ
+unsignedAlong Line w = w .along
+unsignedAlong Arc w = w .along
+unsignedAlong EntrySpiral w = w .along
+unsignedAlong ExitSpiral w = negℤ (w .along)
+
+-- the bound at s mm from an element's start
+pub record Bounded (e : Element) (s : ℕ) : Type 0 where
+  pub along : Within2 (unsignedAlong (e .kind) (localAt e s)) (exactAlong (e .kind) (lengthAt e s) (turnOf (e .kind) (e .radius) (e .length) (lengthAt e s)))
+  pub aside : Within2 (localAt e s .aside) (exactAside (e .kind) (lengthAt e s) (turnOf (e .kind) (e .radius) (e .length) (lengthAt e s)))

@@ -5,6 +5,7 @@ pub mod Kinds
 pub mod Records
 pub mod Series
 pub mod Bound
+pub mod Accepted
 pub mod Acceptance
 pub mod Writer
 pub mod Stations

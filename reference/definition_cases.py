@@ -1,0 +1,1494 @@
+"""The definitions of crates/model against the reference, on random and extreme cases computed by the checker.
+
+For each chapter of the definitions cases are made with a fixed seed: a definition applied to an input, and
+what the reference gives for it. They are written as tables whose equality is proved by `refl`, into a copy
+of the repository's crates in a temporary folder, and checked there. Then one false table for each chapter
+is checked, made by exchanging two expected values, which has to be refused.
+
+definition_cases.py [FOLDER] uses FOLDER, which must not exist yet, and keeps it. Exit status 1 where the
+checker refuses a table, or accepts a false one.
+"""
+
+import math
+import random
+import re
+import shutil
+import struct
+import subprocess
+import sys
+import tempfile
+import time
+from fractions import Fraction
+from pathlib import Path
+from typing import NamedTuple
+
+sys.dont_write_bytecode = True
+
+import crest
+import random_crests
+from crest import ARC, ENTRY, EXIT, FRAME, LINE, ONE, Element, Refusal
+from random_crests import Wish
+
+SEED = 20_01
+FEWEST = 200  # cases for each chapter
+ROOT = Path(__file__).resolve().parent.parent
+CRATE = "model"
+
+# ---------------------------------------------------------------------------
+# Numbers, bytes and the model's types as text
+
+KINDS = {LINE: "Line", ARC: "Arc", ENTRY: "EntrySpiral", EXIT: "ExitSpiral"}
+I32 = (-(2**31), -(2**31) + 1, -1, 0, 1, 2**31 - 2, 2**31 - 1)
+
+
+def whole(n):
+    """A number of ℤ as an argument."""
+    return f"(pos {n})" if n >= 0 else f"(negsuc {-n - 1})"
+
+
+def truth(flag):
+    return "true" if flag else "false"
+
+
+def listed(texts):
+    return "(" + " ∷ ".join([*texts, "[]"]) + ")"
+
+
+def naturals(numbers):
+    return listed(map(str, numbers))
+
+
+def spelt(data):
+    """Bytes as an argument: their count, and the number that they are the little-endian digits of."""
+    return f"(bytes {len(data)} {int.from_bytes(data, 'little'):#x})"
+
+
+def point_text(point):
+    return f"(point {whole(point[0])} {whole(point[1])})"
+
+
+def element_text(element):
+    numbers = " ".join(map(whole, element[2:]))
+    return f"(element {KINDS[element.kind]} {element.length} {numbers})"
+
+
+def elements_text(elements):
+    return listed(map(element_text, elements))
+
+
+def refusal_text(number, place=0):
+    return f"(refused {number} {place})"
+
+
+def outcome_text(refusal):
+    return f"Refused {refusal_text(*refusal)}" if refusal else "Done"
+
+
+def float_text(bits):
+    return f"(float {bits:#x})"
+
+
+# ---------------------------------------------------------------------------
+# Tables and chapters
+
+
+class Case(NamedTuple):
+    """What is asked, and what is due: two texts of one type."""
+
+    asked: str
+    due: str
+
+
+class Table(NamedTuple):
+    """Cases of one type, the definitions that compute them, and how many go into one declaration."""
+
+    name: str
+    type: str
+    unfolding: str
+    cases: list
+    size: int = 50
+
+
+class Chapter(NamedTuple):
+    """A chapter: the names that its tables use, by module, declarations before them, and the tables."""
+
+    number: int
+    name: str
+    uses: tuple
+    tables: list
+    before: tuple = ()
+    after: tuple = ()  # further declarations, each of one case
+
+    @property
+    def module(self):
+        return f"Cases{self.name}"
+
+    @property
+    def count(self):
+        return sum(len(table.cases) for table in self.tables) + len(self.after)
+
+
+SPECS = "Rattle.model.specs"
+FORMS = "CasesForms"
+
+# What every module of cases uses.
+FORMS_TEXT = f"""-- How the tables of cases write bytes, elements, points and answers.
+use Prim.Native.Nat.{{ℕ, zero, suc, _/_, _%_}}
+use mathlib.Core.List.{{List, [], _∷_, map}}
+use lib.IntN.{{ℤ}}
+use lib.Ieee.{{Float, binary64, ofBits}}
+use {SPECS}.declared.Kind.{{Kind}}
+use {SPECS}.declared.Element.{{Element}}
+use {SPECS}.declared.Point.{{Point}}
+use {SPECS}.declared.Refusal.{{Refusal}}
+use {SPECS}.declared.Run.{{Run}}
+
+-- the left and the right column of a table
+abbrev pub asked : {{A : Type 0}} → List (A × A) → List A
+asked {{A}} table = map (λ (row : A × A). row .0) table
+
+abbrev pub due : {{A : Type 0}} → List (A × A) → List A
+due {{A}} table = map (λ (row : A × A). row .1) table
+
+-- the first k digits of n in base 256, the lowest first
+abbrev pub bytes : ℕ → ℕ → List ℕ
+bytes zero n = []
+bytes (suc k) n = n % 256 ∷ bytes k (n / 256)
+
+abbrev pub point : ℤ → ℤ → Point
+point x y = record {{ x = x; y = y }}
+
+abbrev pub element : Kind → ℕ → ℤ → ℤ → ℤ → ℤ → ℤ → Element
+element kind length x y c s radius = record {{ kind = kind; length = length; x = x; y = y; c = c; s = s; radius = radius }}
+
+abbrev pub refused : ℕ → ℕ → Refusal
+refused number place = record {{ number = number; place = place }}
+
+abbrev pub run : ℕ → ℕ → ℕ → ℕ → ℕ → ℤ → ℤ → ℤ → Run
+run answered refused latest first reading one two three =
+    record {{ answered = answered; refused = refused; latest = latest; first = first; reading = reading; one = one; two = two; three = three }}
+
+abbrev pub float : ℕ → Float
+float bits = ofBits binary64 bits
+"""
+
+COMMON_USES = (
+    "Prim.Native.Nat.{ℕ, _*_}",
+    "mathlib.Core.Path.{_≡_, refl}",
+    "mathlib.Core.Bool.{Bool, true, false}",
+    "mathlib.Core.List.{List, [], _∷_, _++_}",
+    "lib.IntN.{ℤ, pos, negsuc}",
+    "Rattle.model.proofs.CasesForms.{asked, due, bytes, point, element, refused, run, float}",
+)
+KIND_USES = (
+    "declared.Kind.{Kind}",
+    "declared.Kind.the-variants.{Line, Arc, EntrySpiral, ExitSpiral}",
+)
+ELEMENT_USES = (*KIND_USES, "declared.Element.{Element}", "declared.Point.{Point}")
+OUTCOME_USES = ("declared.Outcome.{Outcome}", "declared.Outcome.the-variants.{Done, Refused}")
+
+
+def declarations(table):
+    """(name, cases) of each declaration of a table."""
+    for start in range(0, len(table.cases), table.size):
+        yield f"{table.name}-{start // table.size + 1}", table.cases[start : start + table.size]
+
+
+def declaration_text(table, name, cases):
+    rows = "\n    ∷ ".join([*(f"({case.asked}, {case.due})" for case in cases), "[]"])
+    return (
+        f"abbrev table-{name} : List (({table.type}) × ({table.type}))\n"
+        f"table-{name} =\n    {rows}\n\n"
+        f"{name} : asked table-{name} ≡ due table-{name}\n"
+        f"unfolding {table.unfolding}\n"
+        f"{name} = refl\n"
+    )
+
+
+def module_text(chapter, tables, after=()):
+    """A module of some tables of a chapter."""
+    uses = [*COMMON_USES, *(use if use.startswith(("lib.", "Prim.", "Rattle")) else f"{SPECS}.{use}" for use in chapter.uses)]
+    lines = [f"-- Cases of {chapter.name}, computed.", *(f"use {use}" for use in uses), ""]
+    lines += chapter.before
+    lines += [
+        declaration_text(table, name, cases) for table in tables for name, cases in declarations(table)
+    ]
+    lines += [text for _, text in after]
+    return "\n".join(lines)
+
+
+# ---------------------------------------------------------------------------
+# Random pieces
+
+
+def spread(rng, top):
+    """A number from 0 to top, of any size as often as of any other."""
+    return min(top, rng.randrange(1 << rng.randint(0, top.bit_length())))
+
+
+def signed(rng, top):
+    return rng.choice((-1, 1)) * spread(rng, top)
+
+
+def random_bytes(rng, count):
+    fill = rng.randrange(4)
+    if fill == 0:
+        return bytes([rng.choice((0, 255))]) * count
+    if fill == 1:
+        return bytes(rng.choice((0, 0, 0, 1, 127, 128, 255)) for _ in range(count))
+    return rng.randbytes(count)
+
+
+def records_of(elements):
+    return b"".join(map(crest.record_of, elements))
+
+
+def crest_file(rng, count, **wishes):
+    return random_crests.random_file(rng, Wish(count=count, **wishes))
+
+
+def outcome_of(crest_or_refusal):
+    return crest_or_refusal if isinstance(crest_or_refusal, Refusal) else None
+
+
+# ---------------------------------------------------------------------------
+# 1 Rounding
+
+
+def rounding(rng):
+    def near(n, d):
+        due = crest.near(n, d)
+        assert due == math.floor(Fraction(n, d) + Fraction(1, 2))
+        return Case(f"near {whole(n)} {d}", whole(due))
+
+    halves = []
+    for d in (2, 4, 6, 2 * ONE, 6 * ONE, 10**20, 2**100):
+        for q in (-3, -2, -1, 0, 1, 2, rng.randint(-(10**12), 10**12)):
+            halves += [near(q * d + d // 2 + by, d) for by in (-1, 0, 1)]
+    small = [near(n, d) for d in range(1, 6) for n in range(-7, 8)]
+    large = [near(signed(rng, 2**200), 1 + spread(rng, 2**200)) for _ in range(80)]
+    usual = [near(signed(rng, 2**90), rng.choice((ONE, 2 * ONE, 3 * ONE, 20, 30, 108, 220))) for _ in range(80)]
+    tables = [
+        Table("near-halves", "ℤ", "near", halves),
+        Table("near-small", "ℤ", "near", small),
+        Table("near-large", "ℤ", "near", large),
+        Table("near-usual", "ℤ", "near", usual),
+    ]
+    return Chapter(1, "Rounding", ("Rounding.{near}",), tables)
+
+
+# ---------------------------------------------------------------------------
+# 2 Records
+
+
+def records(rng):
+    def field(name, size, value):
+        cases = []
+        for _ in range(60):
+            data = random_bytes(rng, rng.randint(size, 40))
+            at = rng.choice((0, len(data) - size, rng.randint(0, len(data) - size)))
+            cases.append(Case(f"{name} {spelt(data)} {at}", value(data[at : at + size])))
+        return cases
+
+    def unsigned(part):
+        return str(int.from_bytes(part, "little"))
+
+    def twos_complement(part):
+        return whole(int.from_bytes(part, "little", signed=True))
+
+    blocks = [bytes(512), bytes([255]) * 512, bytes([255]) * 508 + bytes(4), *(random_bytes(rng, 512) for _ in range(57))]
+    made = [crest.block_made(rng.randbytes(32 * rng.randint(1, 15)), rng.randrange(4)) for _ in range(20)]
+    parts = []
+    for _ in range(40):
+        data = rng.randbytes(rng.randint(0, 60))
+        at, count = rng.randint(0, 64), rng.randint(0, 64)
+        parts.append(Case(f"part {spelt(data)} {at} {count}", spelt(data[at : at + count])))
+    zeros = []
+    for _ in range(30):
+        data = bytearray(rng.randint(0, 40))
+        if data and rng.randrange(2):
+            data[rng.choice((0, len(data) - 1, rng.randrange(len(data))))] = rng.randint(1, 255)
+        zeros.append(Case(f"allZero {spelt(data)}", truth(not any(data))))
+    used = []
+    for number in range(32):
+        count = number % 4 + 1
+        file = b"".join(
+            data[:482] + struct.pack("<H", rng.choice((0, 1, 14, 15, rng.randint(0, 15)))) + data[484:]
+            for data in (rng.randbytes(512) for _ in range(count))
+        )
+        used.append(Case(f"recordBytes {spelt(file)}", spelt(crest.used_records(crest.blocks_of(file)))))
+    file, _ = crest_file(rng, 60)
+    starts = [Case(f"recordStart {r}", str(crest.read_record(file, r).start)) for r in range(60)]
+    u16s = [0, 1, 255, 256, 65_280, 65_535, *(spread(rng, 65_535) for _ in range(34))]
+    u32s = [0, 1, 255, 256, 65_536, 2**31 - 1, 2**31, 2**32 - 1, *(spread(rng, 2**32 - 1) for _ in range(52))]
+    u16_out = [Case(f"u16Bytes {n}", naturals(struct.pack("<H", n))) for n in u16s]
+    u32_out = [Case(f"u32Bytes {n}", naturals(struct.pack("<I", n))) for n in u32s]
+    plain = [random_bytes(rng, count) for count in (0, 1, 2, 3, 24, 32, 33, 512)]
+    tables = [
+        Table("bytes-spelt", "List ℕ", "part", [Case(spelt(data), naturals(data)) for data in plain]),
+        Table("u16-read", "ℕ", "part", field("u16At", 2, unsigned)),
+        Table("u32-read", "ℕ", "part", field("u32At", 4, unsigned)),
+        Table("i32-read", "ℤ", "part", field("i32At", 4, twos_complement)),
+        Table("u16-written", "List ℕ", "part", u16_out),
+        Table("u32-written", "List ℕ", "part", u32_out),
+        Table("parts", "List ℕ", "part", parts),
+        Table("zeros", "Bool", "allZero", zeros),
+        Table("sums-A", "ℕ", "sumA", [Case(f"sumA {spelt(b)}", str(crest.sums(b)[0])) for b in blocks + made], 20),
+        Table("sums-B", "ℕ", "sumB", [Case(f"sumB {spelt(b)}", str(crest.sums(b)[1])) for b in blocks + made], 20),
+        Table("record-bytes", "List ℕ", "recordBytes", used, 4),
+        Table("record-starts", "ℕ", "part", starts),
+    ]
+    uses = ("Records.{part, u16At, u32At, i32At, u16Bytes, u32Bytes, allZero, sumA, sumB, recordBytes, recordStart}",)
+    return Chapter(2, "Records", uses, tables)
+
+
+# ---------------------------------------------------------------------------
+# 3 Acceptance
+
+
+def with_sums(body):
+    """A block of 508 bytes with right sums."""
+    return bytes(body) + struct.pack("<HH", *crest.sums(body))
+
+
+def changed(file, at, data):
+    """The file with other bytes at a place, and right sums again in that block."""
+    file = bytearray(file)
+    file[at : at + len(data)] = data
+    block = at // 512
+    file[512 * block : 512 * block + 512] = with_sums(file[512 * block : 512 * block + 508])
+    return bytes(file)
+
+
+def record_at(file, record):
+    part = 512 * (record // 15) + 32 * (record % 15)
+    return part, crest.element_of(file[part : part + 32])
+
+
+def record_count(file):
+    return sum(crest.u16_at(block, 482) for block in crest.blocks_of(file))
+
+
+def some_record(rng, file):
+    return rng.choice((0, record_count(file) - 1, rng.randrange(record_count(file))))
+
+
+def some_block(rng, file):
+    return rng.randrange(len(file) // 512)
+
+
+def wrong_length(rng, file):
+    wrong = rng.choice((0, 1, 32, 256, 508, 511, 513, 767, 1023, 1025, 1535, 1537, 2047, 2049, 2560))
+    return (file * 5)[:wrong]
+
+
+def wrong_sum(rng, file):
+    """One byte, two bytes that keep A, two bytes that keep B, or a stored sum."""
+    file = bytearray(file)
+    start = 512 * some_block(rng, file)
+    block = file[start : start + 512]
+    choice = rng.randrange(5)
+    if choice == 0:
+        at = rng.randrange(508)
+        block[at] = (block[at] + rng.randint(1, 255)) % 256
+    elif choice == 1:
+        at = rng.choice([i for i in range(507) if block[i] < 255 and block[i + 1] != block[i] + 1])
+        block[at], block[at + 1] = block[at + 1], block[at]
+        if block[at] == block[at + 1]:
+            block[at], block[at + 1] = block[at] + 1, (block[at + 1] - 1) % 256
+    elif choice == 2:  # weights 2n and n: one down, two up
+        free = [i for i in range(0, 506, 2) if block[i] > 0 and block[508 - (508 - i) // 2] < 254]
+        at = rng.choice(free)
+        block[at] -= 1
+        block[508 - (508 - at) // 2] += 2
+    else:
+        at = rng.choice((508, 509, 510, 511))
+        block[at] ^= 1 << rng.randrange(8)
+    file[start : start + 512] = block
+    return bytes(file)
+
+
+def wrong_field(rng, file):
+    number = some_block(rng, file)
+    start = 512 * number
+    last = start + 512 == len(file)
+    used = crest.u16_at(file, start + 482)
+    choice = rng.randrange(6)
+    if choice == 0:
+        return changed(file, start + 480, struct.pack("<H", rng.choice((number + 1, number + 256, 65_535))))
+    if choice == 1:
+        wrong = (0, 16, 256, 65_535) if last else (0, 1, 14, 16)
+        return changed(file, start + 482, struct.pack("<H", rng.choice(wrong)))
+    if choice == 2:
+        return changed(file, start + 484, struct.pack("<I", rng.choice((0, 2, 257, 2**24 + 1, 2**32 - 1))))
+    if choice == 3 and used < 15:
+        return changed(file, start + rng.choice((32 * used, 479)), b"\x01")
+    if choice == 4 and used > 1 and last:  # a use count one too small
+        return changed(file, start + 482, struct.pack("<H", used - 1))
+    return changed(file, start + rng.choice((488, 507, rng.randint(488, 507))), bytes([rng.randint(1, 255)]))
+
+
+def damaged_record(rng, file):
+    at, _ = record_at(file, some_record(rng, file))
+    if rng.randrange(2):
+        return changed(file, at, bytes([rng.choice((0, 16, 17, 128, 255, rng.randint(16, 255)))]))
+    return changed(file, at + rng.choice((1, 2, 3, 28, 29, 30, 31)), bytes([rng.randint(1, 255)]))
+
+
+def later_kind(rng, file):
+    at, _ = record_at(file, some_record(rng, file))
+    return changed(file, at, bytes([rng.randint(5, 15)]))
+
+
+def out_of_range(rng, file):
+    at, element = record_at(file, some_record(rng, file))
+    choice = rng.randrange(4)
+    if choice == 0:
+        return changed(file, at + 4, struct.pack("<I", rng.choice((0, 500_001, 2**31, 2**32 - 1))))
+    if choice == 1:
+        far = rng.choice((-1, 1)) * rng.choice((FRAME + 1, 2**31 - 1))
+        return changed(file, at + rng.choice((8, 12)), struct.pack("<i", far))
+    if choice == 2:
+        return changed(file, at + rng.choice((8, 12)), struct.pack("<i", -(2**31)))
+    least = {LINE: 0, ARC: 2 * element.length, ENTRY: element.length, EXIT: element.length}[element.kind]
+    size = 1 if element.kind == LINE else rng.choice((0, least - 1, 10_000_001, 2**31 - 1))
+    return changed(file, at + 24, struct.pack("<i", rng.choice((-size, size))))
+
+
+def not_unit(rng, file):
+    at, element = record_at(file, some_record(rng, file))
+    _, above, _, below = UNIT_LIMITS
+    pair = rng.choice((above, below, (0, 0), (ONE, ONE), (2**31 - 1, -(2**31)), (element.c, element.s ^ 4096)))
+    return changed(file, at + 16, struct.pack("<ii", *pair))
+
+
+def moved_join(rng, file):
+    record = rng.randrange(max(1, record_count(file) - 1))
+    at, element = record_at(file, record)
+    by = rng.choice((-1, 1)) * rng.choice((100, 101, 102, 201, 100_000))
+    field, n = rng.choice(((8, element.x), (12, element.y)))
+    return changed(file, at + field, struct.pack("<i", max(-(2**31), min(2**31 - 1, n + by))))
+
+
+def bent_join(rng, file):
+    """A record that starts where the one before it ends, turned by about the limit or by more; mostly the last."""
+    count = record_count(file)
+    record = rng.choice((count - 1, count - 1, rng.randrange(count)))
+    at, element = record_at(file, record)
+    by = rng.choice((-1, 1)) * rng.choice((999_000, 1_001_000, 3_000_000, 10_000_000))
+    c, s = random_crests.unit(element.c - element.s * by // ONE, element.s + element.c * by // ONE)
+    bent = element._replace(c=c, s=s)
+    if record > 0:
+        _, earlier = record_at(file, record - 1)
+        bent = random_crests.anchored(bent, crest.position(earlier, earlier.length))
+    return changed(file, at, crest.record_of(bent)) if random_crests.fits_record(bent) else file
+
+
+DAMAGES = (
+    wrong_length,
+    wrong_sum,
+    wrong_field,
+    damaged_record,
+    later_kind,
+    out_of_range,
+    not_unit,
+    moved_join,
+    bent_join,
+)
+UNIT_LIMITS = random_crests.unit_limit_pairs()
+
+
+def damaged_files(rng, each):
+    """Files with one damage, `each` of each sort, and as many again with two."""
+    files = []
+    for damage in DAMAGES:
+        for number in range(each):
+            # the last few of each sort lie in more than one block
+            count = rng.randint(2, 4) if number < each - 4 else rng.choice((16, 17, 31, 46))
+            file, _ = crest_file(rng, count, at_limit=5)
+            files.append(damage(rng, file))
+    for _ in range(each * 5):
+        file, _ = crest_file(rng, rng.choice((2, 3, 4, 4, 16)), at_limit=5)
+        first, second = sorted(rng.choices(range(1, len(DAMAGES)), k=2), reverse=True)
+        # the sums are the last to be spoiled
+        files.append(DAMAGES[second](rng, DAMAGES[first](rng, file)))
+    return files
+
+
+def acceptance(rng):
+    counts = [1] * 20 + [2] * 20 + [3] * 20 + [4, 5, 6, 14, 15, 15, 16, 29, 30, 31, 45, 46, 59, 60]
+    accepted = []
+    for count in counts:
+        longest = rng.choice((3, 500, 50_000)) if count > 6 else rng.choice((1, 60, 5_000, 500_000))
+        accepted.append(crest_file(rng, count, longest=longest))
+    damaged = damaged_files(rng, 16)
+    verdicts = [outcome_of(crest.check(file)) for file in damaged]
+    for number in range(1, 10):
+        given = sum(bool(verdict) and verdict.number == number for verdict in verdicts)
+        assert given >= 12, (number, given)
+    good = [Case(f"checked {spelt(file)}", "Done") for file, _ in accepted]
+    bad = [Case(f"checked {spelt(file)}", outcome_text(verdict)) for file, verdict in zip(damaged, verdicts)]
+    # the small files apart from the large ones, so that no declaration grows too large
+    small = [case for case, file in zip(good + bad, [f for f, _ in accepted] + damaged) if len(file) <= 512]
+    large = [case for case, file in zip(good + bad, [f for f, _ in accepted] + damaged) if len(file) > 512]
+    elements = [Case(f"crestElements {spelt(file)}", elements_text(found.elements)) for file, found in accepted]
+    kinds = []
+    for byte in range(256):
+        fault = crest.kind_fault(byte)
+        kinds.append(Case(f"decide {byte}", {0: f"Known {KINDS.get(byte)}", 4: "Damaged", 5: "Later"}[fault]))
+    outcomes, parts = [], []
+    for file, found in accepted[15:25] + accepted[45:50] + accepted[-4:-1]:
+        count = len(found.elements)
+        for record in {0, count - 1, count, count + 1, rng.randrange(count), 2**32 - 1}:
+            answer = crest.read_record(file, record)
+            outcomes.append(Case(f"readerOutcome {spelt(file)} {record}", outcome_text(Refusal(*answer[:2]) if answer.number else None)))
+            parts.append(Case(f"readerPart {spelt(file)} {record}", spelt(file[answer.start : answer.end])))
+    for file in damaged[::16]:
+        answer = crest.read_record(file, 0)
+        outcomes.append(Case(f"readerOutcome {spelt(file)} 0", outcome_text(Refusal(*answer[:2]) if answer.number else None)))
+        parts.append(Case(f"readerPart {spelt(file)} 0", spelt(file[answer.start : answer.end])))
+    tables = [
+        Table("kinds", "KindByte", "decide", kinds, 64),
+        Table("files", "Outcome", "checked", small, 10),
+        Table("large-files", "Outcome", "checked", large, 2),
+        Table("elements", "List Element", "crestElements", elements, 8),
+        Table("reader", "Outcome", "readerOutcome", outcomes, 8),
+        Table("reader-parts", "List ℕ", "readerPart", parts, 8),
+    ]
+    uses = (
+        *ELEMENT_USES,
+        *OUTCOME_USES,
+        "declared.KindByte.{KindByte}",
+        "declared.KindByte.the-variants.{Damaged, Known, Later}",
+        "Kinds.{decide}",
+        "Acceptance.{checked, crestElements}",
+        "Answers.{readerOutcome, readerPart}",
+    )
+    return Chapter(3, "Acceptance", uses, tables)
+
+
+# ---------------------------------------------------------------------------
+# 4 Writer
+
+
+def writer(rng):
+    asked = []
+    for _ in range(60):
+        count = rng.choice((1, 1, 2, 2, 3, 4, 5))
+        good = records_of(random_crests.random_elements(rng, Wish(count=count)))
+        asked += [(good, room) for room in rng.sample((0, 1, 511, 512, 513, 600, 1024), 2)]
+    for count in (15, 16, 30, 31, 45, 60):
+        good = records_of(random_crests.random_elements(rng, Wish(count=count)))
+        needed = 512 * -(-count // 15)
+        asked += [(good, room) for room in (needed - 1, needed, needed + rng.randint(1, 90))]
+    for length in (0, 1, 31, 33, 63, 65, 100, 61 * 32, 60 * 32 + 1, 62 * 32):
+        asked += [(random_bytes(rng, length), room) for room in (0, 512)]
+    for file in damaged_files(rng, 7):  # 4 to 9, with and without room
+        bad = crest.used_records(crest.blocks_of(file)[:1])
+        if 0 < len(bad) <= 160 and len(bad) % 32 == 0:
+            asked.append((bad, rng.choice((0, 511, 512, 512, 700))))
+    outcomes, rooms, calls, files = [], [], [], []
+    for data, length in asked:
+        room = random_bytes(rng, length)
+        refusal, after = crest.write(data, room)
+        outcomes.append((len(data), Case(f"writerOutcome {spelt(data)} {length}", outcome_text(refusal))))
+        rooms.append((len(data), Case(f"written {spelt(data)} {spelt(room)}", spelt(after))))
+        value = crest.c_value(*refusal) if refusal else 0
+        calls.append((len(data), Case(f"writeCall {spelt(data)} {spelt(room)}", f"({value}, {spelt(after)})")))
+        if not refusal:
+            files.append((len(data), Case(f"fileOf {spelt(data)}", spelt(after[: 512 * -(-len(data) // 480)]))))
+    numbers = {int(case.due.split()[2]) for _, case in outcomes if case.due != "Done"}
+    assert numbers == {4, 5, 6, 7, 8, 9, 17, 18}, numbers
+
+    def split(name, kind, unfolding, sized, size):
+        """The few large ones apart."""
+        small = [case for length, case in sized if length <= 160]
+        large = [case for length, case in sized if length > 160]
+        return [Table(name, kind, unfolding, small, size), Table(f"large-{name}", kind, unfolding, large, 2)]
+
+    tables = [
+        *split("outcomes", "Outcome", "writerOutcome", outcomes, 15),
+        *split("rooms", "List ℕ", "written", rooms, 10),
+        *split("files", "List ℕ", "fileOf", files, 10),
+        *split("calls", "ℕ × List ℕ", "writeCall", rng.sample(calls, 40), 5),
+    ]
+    uses = (*OUTCOME_USES, "Writer.{writerOutcome, written, fileOf}", "Run.{writeCall}")
+    return Chapter(4, "Writer", uses, tables)
+
+
+# ---------------------------------------------------------------------------
+# 5 Series
+
+
+def sample_elements(rng, count):
+    """Elements of every kind, sign, extreme and random lengths and radii, not joined to anything."""
+    elements = []
+    lengths = (1, 2, 3, 999, 250_000, 499_999, 500_000)
+    for number in range(count):
+        kind = (LINE, ARC, ENTRY, EXIT)[number % 4]
+        length = rng.choice((rng.choice(lengths), rng.randint(1, 500_000), 1 + spread(rng, 499_999)))
+        least = 2 * length if kind == ARC else length
+        size = rng.choice((least, least, crest.WIDEST, min(crest.WIDEST, least + spread(rng, crest.WIDEST))))
+        radius = 0 if kind == LINE else rng.choice((-1, 1)) * size
+        corner = rng.choice((-1, 1)) * FRAME, rng.choice((-1, 1)) * FRAME
+        x, y = rng.choice((corner, (0, 0), (signed(rng, FRAME), signed(rng, FRAME))))
+        c, s = rng.choice((random_crests.random_unit(rng), random_crests.random_unit(rng), UNIT_LIMITS[0], UNIT_LIMITS[2]))
+        element = Element(kind, length, x, y, c, s, radius)
+        assert crest.record_fault(crest.record_of(element)) == 0
+        elements.append(element)
+    return elements
+
+
+def places_on(rng, element):
+    """0, L, and some between."""
+    return sorted({0, element.length, element.length // 2, rng.randint(0, element.length), spread(rng, element.length)})
+
+
+def local_text(pair):
+    return f"record {{ along = {whole(pair[0])}; aside = {whole(pair[1])} }}"
+
+
+def series(rng):
+    positions, tangents, angles, locals_, directions = [], [], [], [], []
+    for element in sample_elements(rng, 80):
+        text = element_text(element)
+        for s in places_on(rng, element):
+            positions.append(Case(f"positionOn {text} {s}", point_text(crest.position(element, s))))
+            tangents.append(Case(f"tangentOn {text} {s}", point_text(crest.direction(element, s))))
+            turned = 0 if element.kind == LINE else crest.turned(element, s)
+            angles.append(Case(f"angleAt {text} {s}", whole(turned)))
+            locals_.append(Case(f"localAt {text} {s}", local_text(crest.own_position(element, s))))
+            directions.append(Case(f"directionAt {text} {s}", local_text(crest.own_direction(element, s))))
+    tables = [
+        Table("positions", "Point", "positionOn", positions),
+        Table("tangents", "Point", "tangentOn", tangents),
+        Table("angles", "ℤ", "angleAt", angles[::2]),
+        Table("locals", "Local", "localAt", locals_[::2]),
+        Table("directions", "Local", "directionAt", directions[::2]),
+    ]
+    uses = (*ELEMENT_USES, "Series.{Local, positionOn, tangentOn, angleAt, localAt, directionAt}")
+    return Chapter(5, "Series", uses, tables)
+
+
+# ---------------------------------------------------------------------------
+# 6 Bound
+
+
+def exact(element, l):
+    """The three-term sums of document 01's bound as fractions: (u or U, v or V)."""
+    if element.kind == LINE:
+        return Fraction(100 * l), Fraction(0)
+    if element.kind == ARC:
+        turn = Fraction(l, element.radius)
+        return (
+            100 * l * (1 - turn**2 / 6 + turn**4 / 120),
+            50 * l * turn * (1 - turn**2 / 12 + turn**4 / 360),
+        )
+    turn = Fraction(l * l, 2 * element.radius * element.length)
+    return (
+        100 * l * (1 - turn**2 / 10 + turn**4 / 216),
+        100 * l * turn * (1 - turn**2 / 14 + turn**4 / 440) / 3,
+    )
+
+
+def bound(rng):
+    """Equal fractions by cross products, and the test of 2 grains on both sides of its limit."""
+    sums, positive, tests, proved, refuted = [], [], [], [], []
+    for number, element in enumerate(sample_elements(rng, 72)):
+        for s in places_on(rng, element):
+            l = crest.distance_from_anchor(element, s)
+            u, v = crest.own_position(element, s)
+            u = -u if element.kind == EXIT else u
+            for name, value, found in zip(("exactAlong", "exactAside"), exact(element, l), (u, v)):
+                text = f"{name} {KINDS[element.kind]} {whole(element.radius)} {element.length} {l}"
+                sums.append(
+                    Case(
+                        f"({text}) .numerator *ℤ pos {value.denominator}",
+                        f"{whole(value.numerator)} *ℤ pos (({text}) .denominator)",
+                    )
+                )
+                positive.append(Case(f"ltb 0 (({text}) .denominator)", "true"))
+                low, high = math.ceil(value - 2), math.floor(value + 2)
+                assert low <= found <= high
+                for grains in {found, rng.choice((low, high)), rng.choice((low - 1, high + 1))}:
+                    side = f"natAbs (pos (({text}) .denominator) *ℤ {whole(grains)} -ℤ ({text}) .numerator)"
+                    tests.append(Case(f"leb ({side}) (2 * ({text}) .denominator)", truth(low <= grains <= high)))
+                if s == element.length // 2 and number < 24:
+                    proved.append((f"Within2 {whole(found)} ({text})", "leb→le _ _ tt"))
+                    wrong = rng.choice((low - 1, high + 1))
+                    refuted.append((f"Within2 {whole(wrong)} ({text}) → ⊥", "λ within. le→leb _ _ within"))
+    after = []
+    for name, statements in (("within", proved), ("beyond", refuted)):
+        for number, (statement, proof) in enumerate(statements, 1):
+            full = f"{name}-{number}"
+            text = f"{full} : {statement}\nunfolding Within2 exactAlong exactAside one\n{full} = {proof}\n"
+            after.append((full, text))
+    tables = [
+        Table("sums", "ℤ", "exactAlong exactAside one", rng.sample(sums, 300)),
+        Table("denominators", "Bool", "exactAlong exactAside one", rng.sample(positive, 100)),
+        Table("within-2", "Bool", "exactAlong exactAside one", rng.sample(tests, 300)),
+    ]
+    uses = (
+        *KIND_USES,
+        "lib.IntN.{natAbs, one, _*ℤ_, _-ℤ_}",
+        "lib.Dec.{leb, ltb, leb→le, le→leb}",
+        "Bound.{Within2, exactAlong, exactAside}",
+    )
+    return Chapter(6, "Bound", uses, tables, after=tuple(after))
+
+
+# ---------------------------------------------------------------------------
+# 7 to 10: alignments, each named once in its module
+
+
+class Named(NamedTuple):
+    """An alignment under a name, one for each element and one for the list."""
+
+    name: str
+    alignment: crest.Alignment
+
+    def element(self, number):
+        return f"{self.name}-{number}"
+
+    @property
+    def text(self):
+        lines = []
+        for number, element in enumerate(self.alignment.elements):
+            name = self.element(number)
+            lines.append(f"abbrev {name} : Element\n{name} = {element_text(element)[1:-1]}\n")
+        names = listed(map(self.element, range(len(self.alignment.elements))))[1:-1]
+        lines.append(f"abbrev {self.name} : List Element\n{self.name} = {names}\n")
+        return "\n".join(lines)
+
+
+def named_alignments(rng, wishes):
+    return [
+        Named(f"crest-{number}", crest.Alignment(random_crests.random_elements(rng, wish)))
+        for number, wish in enumerate(wishes, 1)
+    ]
+
+
+def shown(named):
+    return tuple(alignment.text for alignment in named)
+
+
+def stations_of(rng, alignment):
+    """0, T, every join with its neighbours, some others."""
+    found = {0, alignment.total, *(rng.randint(0, alignment.total) for _ in range(3))}
+    for start in alignment.starts:
+        found |= {start - 1, start, start + 1}
+    return sorted(s for s in found if 0 <= s <= alignment.total)
+
+
+def stations(rng):
+    wishes = [Wish(count=count) for count in (1, 1, 2, 3, 4, 5, 8)]
+    wishes += [Wish(count=3, longest=500_000), Wish(count=5, longest=1), Wish(count=60, longest=40), Wish(count=12, longest=100_000)]
+    spots, positions, tangents, distances, totals = [], [], [], [], []
+    named = named_alignments(rng, wishes)
+    for one in named:
+        alignment = one.alignment
+        totals.append(Case(f"total {one.name}", str(alignment.total)))
+        tested = stations_of(rng, alignment)
+        for s in rng.sample(tested, min(30, len(tested))):
+            number, along = crest.element_at(alignment, s)
+            spots.append(Case(f"spotAt {one.name} {s}", f"record {{ element = {one.element(number)}; along = {along} }}"))
+            positions.append(Case(f"positionAt {one.name} {s}", point_text(crest.position_at(alignment, s))))
+            tangents.append(Case(f"tangentAt {one.name} {s}", point_text(crest.direction_at(alignment, s))))
+            p = random_crests.random_point(rng, alignment)
+            d = crest.squared_distance(alignment, p, s)
+            distances.append(Case(f"D {one.name} {point_text(p)} {s}", str(d)))
+    tables = [
+        Table("totals", "ℕ", "total", totals),
+        Table("spots", "Spot", "spotAt", spots),
+        Table("positions", "Point", "positionAt", positions),
+        Table("tangents", "Point", "tangentAt", tangents),
+        Table("distances", "ℕ", "D", distances),
+    ]
+    uses = (*ELEMENT_USES, "Stations.{Spot, total, spotAt, positionAt, tangentAt, D}")
+    return Chapter(7, "Stations", uses, tables, shown(named))
+
+
+def located_text(answer):
+    if answer.number:
+        return f"LocatedRefused {refusal_text(answer.number, answer.place)}"
+    return f"LocatedAt {answer.station} {whole(answer.offset)} {whole(answer.residual)} {answer.count}"
+
+
+LOCATED_USES = ("declared.Located.{Located}", "declared.Located.the-variants.{At as LocatedAt, Refused as LocatedRefused}")
+
+
+def short_wish(rng, longest=60):
+    """An alignment of at most that many mm."""
+    count = rng.choice((1, 1, 2, 3, 4))
+    return Wish(count=count, longest=longest // count)
+
+
+def points_for(rng, alignment, count):
+    """Points of every sort, some outside the frame."""
+    points = [random_crests.random_point(rng, alignment) for _ in range(count)]
+    if rng.randrange(3) == 0:
+        points[0] = rng.choice(((FRAME + 1, 0), (0, -FRAME - 1), (-(2**40), 2**40), (FRAME, FRAME + 1)))
+    return points
+
+
+def judged(rng):
+    stations_, residuals, offsets, answers, file_answers = [], [], [], [], []
+    named = named_alignments(rng, [short_wish(rng) for _ in range(50)])
+    seen = set()
+    for one in named:
+        alignment = one.alignment
+        for p in points_for(rng, alignment, 6):
+            s = crest.station_judged(alignment, p)
+            stations_.append(Case(f"judged {one.name} {point_text(p)}", str(s)))
+            at = rng.choice((s, s, random_crests.random_station(rng, alignment)))
+            residual, offset = crest.residual_and_offset(alignment, p, at)
+            residuals.append(Case(f"residualAt {one.name} {point_text(p)} {at}", whole(residual)))
+            offsets.append(Case(f"offsetAt {one.name} {point_text(p)} {at}", whole(offset)))
+            answer = crest.plane_answer(alignment, *p)
+            assert answer.number or answer.station == s
+            seen.add(answer.number)
+            answers.append(Case(f"locatedOn {one.name} {point_text(p)}", located_text(answer)))
+    assert seen == {0, 11, 12, 13, 14}, seen
+    for _ in range(20):
+        file, alignment = random_crests.random_file(rng, short_wish(rng, 30))
+        if rng.randrange(3) == 0:
+            file = rng.choice(DAMAGES)(rng, file)
+        (p,) = points_for(rng, alignment, 1)
+        answer = crest.station_and_offset(file, *p)
+        file_answers.append(Case(f"located {spelt(file)} {point_text(p)}", located_text(answer)))
+    tables = [
+        Table("stations", "ℕ", "judged", stations_, 20),
+        Table("residuals", "ℤ", "residualAt", residuals),
+        Table("offsets", "ℤ", "offsetAt", offsets),
+        Table("answers", "Located", "locatedOn", answers, 10),
+        Table("file-answers", "Located", "located", file_answers, 4),
+    ]
+    uses = (*ELEMENT_USES, *LOCATED_USES, "Judged.{judged, residualAt, offsetAt}", "Answers.{locatedOn, located}")
+    return Chapter(8, "Judged", uses, tables, shown(named))
+
+
+# ---------------------------------------------------------------------------
+# 9 Walk
+
+
+def walk(rng):
+    totals = [1, 2, 3, 999, 1000, 1001, 1999, 2000, 60_000, *(spread(rng, 40_000) + 1 for _ in range(41))]
+    first = [Case(f"firstVisits {t}", naturals(crest.first_visits(t))) for t in totals]
+    roots, skips = [], []
+    for _ in range(50):
+        n = spread(rng, 10**18)
+        root = math.isqrt(n)
+        n = rng.choice((n, root * root, max(0, root * root - 1), root * root + 2 * root))
+        roots.append(Case(f"root {n}", str(math.isqrt(n))))
+        best = spread(rng, 4 * 10**14)
+        further = math.isqrt(best) + rng.choice((0, 29, 30, 31, 32, 180, 181, 182, spread(rng, 10**8)))
+        d = further**2 + rng.randint(0, 2 * further)
+        surplus = math.isqrt(d) - math.isqrt(best)
+        skips.append(Case(f"leftOut {d} {best}", str((surplus - 31) // 150 if surplus >= 31 else 0)))
+    second, counts, both = [], [], []
+    wishes = [short_wish(rng, 120) for _ in range(24)]
+    wishes += [Wish(count=rng.randint(1, 4), longest=rng.choice((500, 5_000, 30_000, 500_000))) for _ in range(40)]
+    wishes += [Wish(count=60, longest=20), Wish(count=25, longest=4_000)]
+    named = named_alignments(rng, wishes)
+    skipped = 0
+    for one in named:
+        alignment = one.alignment
+        kept = 0
+        for p in points_for(rng, alignment, 12):
+            walked = crest.walk(alignment, lambda s: crest.squared_distance(alignment, p, s))
+            if walked.count > 600 or kept == 4:
+                continue
+            kept += 1
+            skipped += walked.second[-1] - len(walked.second) + 1 > 0
+            second.append(Case(f"secondVisits {one.name} {point_text(p)}", naturals(walked.second)))
+            counts.append(Case(f"visitCount {one.name} {point_text(p)}", str(walked.count)))
+            both.append(Case(f"visits {one.name} {point_text(p)}", naturals(walked.first + walked.second)))
+    assert skipped >= 50, skipped
+    tables = [
+        Table("first", "List ℕ", "firstVisits", first, 25),
+        Table("roots", "ℕ", "root", roots),
+        Table("skips", "ℕ", "leftOut", skips),
+        Table("second", "List ℕ", "secondVisits", second, 10),
+        Table("counts", "ℕ", "visitCount", counts, 10),
+        Table("both", "List ℕ", "visits", both[::4], 10),
+    ]
+    uses = (
+        *ELEMENT_USES,
+        "Rattle.integers.specs.Root.{root}",
+        "Walk.{firstVisits, leftOut, secondVisits, visits, visitCount}",
+    )
+    return Chapter(9, "Walk", uses, tables, shown(named))
+
+
+# ---------------------------------------------------------------------------
+# 10 Answers
+
+
+def inverse_text(answer):
+    if answer.number:
+        return f"InverseRefused {refusal_text(answer.number, answer.place)}"
+    return f"InverseAt {whole(answer.x)} {whole(answer.y)}"
+
+
+def placed_text(answer):
+    if answer.number:
+        return f"PlacedRefused {refusal_text(answer.number, answer.place)}"
+    return f"PlacedAt {whole(answer.x)} {whole(answer.y)} {whole(answer.tx)} {whole(answer.ty)}"
+
+
+def move_text(answer):
+    if answer.number:
+        return f"MoveRefused {refusal_text(answer.number, answer.place)}"
+    return f"By {whole(answer.forward)} {whole(answer.left)}"
+
+
+def some_place(rng, total):
+    """A station and an offset, now and then just out of range."""
+    station = rng.choice((0, total, rng.randint(0, total), rng.randint(0, total), -1, total + 1, -(2**40)))
+    limit = crest.OFFSET_LIMIT
+    offset = rng.choice((0, limit, -limit, limit + 1, -limit - 1, signed(rng, limit), signed(rng, limit)))
+    return station, offset
+
+
+def some_move(rng):
+    """Own point, target and heading, now and then out of the frame or no unit."""
+
+    def place():
+        near_edge = rng.choice((-1, 1)) * (FRAME + rng.choice((-1, 0, 1)))
+        return rng.choice((signed(rng, FRAME), signed(rng, FRAME), signed(rng, FRAME), near_edge))
+
+    turn = rng.choice((-1, 1))
+    limits = [(turn * c, s) for c, s in UNIT_LIMITS]
+    heading = rng.choice((random_crests.random_unit(rng), random_crests.random_unit(rng), rng.choice(limits), (0, 0)))
+    return (place(), place()), (place(), place()), heading
+
+
+def answers(rng):
+    inverses, at, file_inverses, placed, moves, calls = [], [], [], [], [], []
+    edge = [Wish(count=2, middle=(FRAME, -FRAME + 5), heading=(0, ONE), kinds=(LINE,), gap=0)]
+    named = named_alignments(rng, [Wish(count=n, longest=m) for n in (1, 2, 5, 20) for m in (60, 500_000)] + edge)
+    for one in named:
+        for _ in range(20):
+            s, w = some_place(rng, one.alignment.total)
+            answer = crest.line_answer(one.alignment, s, w)
+            inverses.append((answer.number, Case(f"inverseOn {one.name} {whole(s)} {whole(w)}", inverse_text(answer))))
+    assert {number for number, _ in inverses} == {0, 11, 15}
+    inverses = [case for _, case in inverses]
+    for _ in range(40):
+        file, alignment = crest_file(rng, rng.choice((1, 2, 3)), longest=rng.choice((50, 500_000)))
+        total = alignment.total
+        if rng.randrange(4) == 0:
+            file = rng.choice(DAMAGES)(rng, file)
+        s, w = some_place(rng, total)
+        file_inverses.append(Case(f"inverse {spelt(file)} {whole(s)} {whole(w)}", inverse_text(crest.inverse(file, s, w))))
+        s = rng.choice((0, total, total + 1, rng.randint(0, total), 2**32))
+        placed.append(Case(f"placed {spelt(file)} {s}", placed_text(crest.position_and_direction(file, s))))
+    seen = set()
+    for _ in range(120):
+        own, target, (c, s) = some_move(rng)
+        answer = crest.stake_out(own, target, (c, s))
+        seen.add(answer.number)
+        text = f"{point_text(own)} {point_text(target)} {whole(c)} {whole(s)}"
+        moves.append(Case(f"stakeOut {text}", move_text(answer)))
+        room = random_bytes(rng, rng.choice((8, 8, 8, 8, 0, 7, 9, 24)))
+        value, after = crest.crest_stake_out(*own, *target, c, s, room)
+        calls.append(Case(f"stakeOutCall {text} {spelt(room)}", f"({value}, {spelt(after)})"))
+    assert seen == {0, 7, 11}, seen
+    tables = [
+        Table("inverses", "Inverse", "inverseOn", inverses, 30),
+        Table("file-inverses", "Inverse", "inverse", file_inverses, 8),
+        Table("placed", "Placed", "placed", placed, 8),
+        Table("moves", "Move", "stakeOut", moves),
+        Table("move-calls", "ℕ × List ℕ", "stakeOutCall", calls),
+    ]
+    uses = (
+        *ELEMENT_USES,
+        "declared.Inverse.{Inverse}",
+        "declared.Inverse.the-variants.{At as InverseAt, Refused as InverseRefused}",
+        "declared.Placed.{Placed}",
+        "declared.Placed.the-variants.{At as PlacedAt, Refused as PlacedRefused}",
+        "declared.Move.{Move}",
+        "declared.Move.the-variants.{By, Refused as MoveRefused}",
+        "Answers.{inverseOn, inverse, placed, stakeOut}",
+        "Run.{stakeOutCall}",
+    )
+    return Chapter(10, "Answers", uses, tables, shown(named))
+
+
+# ---------------------------------------------------------------------------
+# 11 Readings
+
+INFINITY = 0x7FF << 52
+MINUS = 1 << 63
+ODD_FLOATS = (
+    *(0, 1, 2, (1 << 52) - 1, 1 << 52),  # zero, the smallest numbers
+    *(INFINITY - 1, INFINITY, INFINITY + 1, INFINITY + (1 << 51), (1 << 63) - 1),  # the largest, infinity, no numbers
+    *(1023 << 52, (1023 << 52) - 1, (1023 << 52) + 1, (1022 << 52), (1024 << 52) + (1 << 51)),  # around 1, a half, 3
+    *((1075 << 52) - 1, (1075 << 52) - 2, 1075 << 52, (1075 << 52) + 1, (1074 << 52) + 1),  # around 2^52
+    *((1076 << 52) - 1, 1076 << 52, (1076 << 52) + 1, 1086 << 52, 1139 << 52),  # 2^53, 2^63, 2^116
+)
+TAKEN_USES = (
+    "declared.Taken.{Taken}",
+    "declared.Taken.the-variants.{PlanePoint as TakenPoint, LinePlace as TakenPlace, Refused as TakenRefused}",
+)
+READING_USES = ("declared.Reading.{Reading}", "declared.Reading.the-variants.{PlanePoint, LinePlace}")
+
+
+def taken_text(reading, answer):
+    if answer.number:
+        return f"TakenRefused {refusal_text(answer.number, answer.place)}"
+    a, b, c = answer.three
+    if isinstance(reading, crest.PlanePoint):
+        return f"TakenPoint {a} {whole(b)} {whole(c)} {answer.count}"
+    return f"TakenPlace {whole(a)} {whole(b)}"
+
+
+def reading_text(reading):
+    sort = "PlanePoint" if isinstance(reading, crest.PlanePoint) else "LinePlace"
+    return f"({sort} {float_text(reading[0])} {float_text(reading[1])})"
+
+
+def odd_bits(rng):
+    bits = rng.choice((rng.choice(ODD_FLOATS), rng.getrandbits(63)))
+    return bits | rng.choice((0, MINUS))
+
+
+def some_reading(rng, alignment):
+    """A reading close to an alignment; now and then one number is not whole, not finite or very large."""
+    if rng.randrange(2):
+        numbers = random_crests.random_point(rng, alignment)
+        sort = crest.PlanePoint
+    else:
+        numbers = some_place(rng, alignment.total)
+        sort = crest.LinePlace
+    bits = [crest.f64_bits(float(n)) for n in numbers]
+    if rng.randrange(4) == 0:
+        bits[rng.randrange(2)] = odd_bits(rng)
+    if rng.randrange(6) == 0:
+        bits = [b | MINUS if b == 0 else b for b in bits]
+    return sort(*bits)
+
+
+def short_crest(rng):
+    """(file, alignment) of a short crest; the file is now and then damaged."""
+    file, alignment = random_crests.random_file(rng, short_wish(rng, 24))
+    if rng.randrange(5) == 0:
+        file = rng.choice(DAMAGES)(rng, file)
+    return file, alignment
+
+
+def readings(rng):
+    patterns = [bits | sign for bits in ODD_FLOATS for sign in (0, MINUS)]
+    patterns += [crest.f64_bits(float(signed(rng, 2**60))) for _ in range(40)]
+    patterns += [crest.f64_bits(signed(rng, 2**40) / 2 ** rng.randint(1, 30)) for _ in range(30)]
+    patterns += [rng.getrandbits(64) for _ in range(20)]
+    patterns += [(rng.randint(1020, 1080) << 52) | (rng.getrandbits(53) << rng.randint(0, 52)) & ((1 << 52) - 1) for _ in range(60)]
+    wholes = []
+    for bits in patterns:
+        found = crest.whole_of_f64(bits)
+        wholes.append(Case(f"wholeOf {float_text(bits)}", "none" if found is None else f"whole {whole(found)}"))
+    taken = []
+    for _ in range(90):
+        file, alignment = short_crest(rng)
+        reading = some_reading(rng, alignment)
+        answer = crest.reading_answer(crest.check(file), reading)
+        taken.append((answer.number, Case(f"taken {spelt(file)} {reading_text(reading)}", taken_text(reading, answer))))
+    assert {0, 10, 11, 13, 14, 15} <= {number for number, _ in taken}, sorted(number for number, _ in taken)
+    taken = [case for _, case in taken]
+    pairs = [(0, 0), (30_000_000, 20_000_424), (1, -1), (5, 300), (7, -50), (2**53 + 1, 2**53 + 1), (2**64 - 1, -(2**63))]
+    pairs += [(spread(rng, 30_000_000), signed(rng, 20_000_424)) for _ in range(60)]
+    pairs += [(spread(rng, 2**64 - 1), signed(rng, 2**63 - 1)) for _ in range(40)]
+    displays = []
+    for station, offset in pairs:
+        shown_pair = [float_text(crest.f64_bits(n)) for n in crest.display_pair(station, offset)]
+        answer = f"(TakenPoint {station} {whole(offset)} {whole(signed(rng, 200))} {spread(rng, 10**6)})"
+        displays.append(Case(f"displayOf {answer}", f"record {{ station = {shown_pair[0]}; offset = {shown_pair[1]} }}"))
+    nothing = "record { station = float 0; offset = float 0 }"
+    for number in range(1, 16):
+        displays.append(Case(f"displayOf (TakenRefused {refusal_text(number, spread(rng, 60))})", nothing))
+        displays.append(Case(f"displayOf (TakenPlace {whole(signed(rng, FRAME))} {whole(signed(rng, FRAME))})", nothing))
+    tables = [
+        Table("wholes", "Whole", "wholeOf ofBits", wholes),
+        Table("taken", "Taken", "taken ofBits", taken, 5),
+        Table("displays", "Display", "displayOf ofInt div ofBits", displays, 25),
+    ]
+    uses = (
+        *READING_USES,
+        *TAKEN_USES,
+        "declared.Display.{Display}",
+        "lib.Ieee.{ofBits, ofInt, div}",
+        "Readings.{Whole, whole, none, wholeOf, taken, displayOf}",
+    )
+    return Chapter(11, "Readings", uses, tables)
+
+
+# ---------------------------------------------------------------------------
+# 12 Run
+
+
+def run_text(state):
+    counts = " ".join(map(str, state[:5]))
+    return f"(run {counts} {' '.join(map(whole, state.three))})"
+
+
+def random_run(rng, full=False):
+    """A state that 24 bytes can spell."""
+
+    def u16():
+        return rng.choice((0, 1, 65_534, 65_535, spread(rng, 65_535), rng.randint(0, 65_535)))
+
+    while True:
+        answered, refused = u16(), u16()
+        if full or answered + refused < crest.RUN_LIMIT:
+            break
+    three = tuple(rng.choice((rng.choice(I32), signed(rng, 2**31 - 1))) for _ in range(3))
+    first, reading = rng.choice(((0, 0), (0, u16()), (u16(), u16())))
+    return crest.Run(answered, refused, u16(), first, reading, u16(), three)
+
+
+class Told(NamedTuple):
+    """An outcome for a run, with its text."""
+
+    outcome: crest.ReadingAnswer
+    text: str
+
+
+def random_outcome(rng):
+    choice = rng.randrange(3)
+    if choice == 0:
+        number, place = rng.randint(1, 15), rng.choice((0, 0, 3, 59))
+        return Told(crest.ReadingAnswer(number, place), f"(TakenRefused {refusal_text(number, place)})")
+    if choice == 1:
+        x, y = signed(rng, FRAME), signed(rng, FRAME)
+        return Told(crest.ReadingAnswer(0, 0, (x, y, 0)), f"(TakenPlace {whole(x)} {whole(y)})")
+    three = spread(rng, 30_000_000), signed(rng, 20_000_424), signed(rng, 200)
+    visits = spread(rng, 10**6)
+    text = f"(TakenPoint {three[0]} {whole(three[1])} {whole(three[2])} {visits})"
+    return Told(crest.ReadingAnswer(0, 0, three, visits), text)
+
+
+def history(rng, length):
+    """Outcomes, and None for an acknowledgement."""
+    often = rng.choice((2, 4, 8, 1000))
+    return [None if rng.randrange(often) == 0 else random_outcome(rng) for _ in range(length)]
+
+
+def history_text(events):
+    return listed("acknowledgement" if told is None else f"reading {told.text}" for told in events)
+
+
+def run_told(state, events, limit=crest.RUN_LIMIT):
+    for told in events:
+        if told is None:
+            state = crest.acknowledged(state)
+        elif state.answered + state.refused < limit:
+            state = crest.run_after(state, told.outcome)
+    return state
+
+
+def run_record(rng):
+    counted, acknowledged, told, read, written, full = [], [], [], [], [], []
+    for _ in range(60):
+        state, one = random_run(rng), random_outcome(rng)
+        counted.append(Case(f"counted {one.text} {run_text(state)}", run_text(crest.run_after(state, one.outcome))))
+        state = random_run(rng, full=True)
+        acknowledged.append(Case(f"acknowledged {run_text(state)}", run_text(crest.acknowledged(state))))
+        full.append(Case(f"isFull {run_text(state)}", truth(crest.run_is_full(state))))
+        events = history(rng, 1)
+        told.append(Case(f"toldAll {history_text(events)} {run_text(state)}", run_text(run_told(state, events))))
+        data = random_bytes(rng, 24)
+        read.append(Case(f"runAt {spelt(data)}", run_text(crest.run_of(data))))
+        old = random_bytes(rng, 24)
+        due = crest.bytes_of_run(state._replace(spare=crest.run_of(old).spare))
+        written.append(Case(f"runBytes {run_text(state)} {spelt(old)}", spelt(due)))
+    return counted, acknowledged, told, read, written, full
+
+
+def run_calls(rng):
+    acknowledgements, read_calls, called = [], [], []
+    for number in range(60):
+        length = 24 if number % 3 else rng.choice((0, 1, 8, 23, 25, 48, 512))
+        data = random_bytes(rng, length)
+        value, after = crest.crest_acknowledge(data)
+        acknowledgements.append(Case(f"acknowledgeCall {spelt(data)}", f"({value}, {spelt(after)})"))
+    returned = set()
+    for number in range(90):
+        file, alignment = short_crest(rng)
+        reading = some_reading(rng, alignment)
+        state = crest.bytes_of_run(random_run(rng, full=number % 10 == 0))
+        data = state if number % 8 else random_bytes(rng, rng.choice((0, 1, 23, 25, 24)))
+        value, after = crest.c_reading(file, reading, data)
+        returned.add(value % 256)
+        read_calls.append(
+            Case(f"readingCall {spelt(file)} {reading_text(reading)} {spelt(data)}", f"({value}, {spelt(after)})")
+        )
+    assert {0, 10, 16, 18} <= returned, returned
+    for _ in range(15):
+        data, texts = bytes(24), []
+        file, alignment = short_crest(rng)
+        for _ in range(rng.randint(1, 5)):
+            if rng.randrange(4) == 0:
+                data = crest.crest_acknowledge(data)[1]
+                texts.append("acknowledge")
+            else:
+                reading = some_reading(rng, alignment)
+                data = crest.c_reading(file, reading, data)[1]
+                texts.append(f"read {spelt(file)} {reading_text(reading)}")
+        called.append(Case(f"runAfterCalls {listed(texts)} freshBytes", spelt(data)))
+    return acknowledgements, read_calls, called
+
+
+def histories(rng):
+    """What a run is told one after the other, and what demand 1 says of it: both against the reference."""
+    told, demanded, cut, nearly_full = [], [], [], []
+    for _ in range(60):
+        events = history(rng, rng.choice((0, 1, 2, 3, 5, 8, 13, 40)))
+        text, due = history_text(events), run_text(run_told(crest.FRESH, events))
+        told.append(Case(f"toldAll {text} fresh", due))
+        demanded.append(Case(f"demanded {text}", due))
+        limit = rng.choice((0, 1, 2, 3, 10))
+        cut.append(Case(f"shownAfter (countedOf {limit} {text})", run_text(run_told(crest.FRESH, events, limit))))
+        left = rng.randint(0, 6)
+        state = random_run(rng)._replace(answered=30_000, refused=crest.RUN_LIMIT - 30_000 - left)
+        nearly_full.append(Case(f"toldAll {text} {run_text(state)}", run_text(run_told(state, events))))
+    return told, demanded, cut, nearly_full
+
+
+def run(rng):
+    counted, acknowledged, told, read, written, full = run_record(rng)
+    acknowledgements, read_calls, called = run_calls(rng)
+    from_fresh, demanded, cut, nearly_full = histories(rng)
+    tables = [
+        Table("counted", "Run", "counted", counted),
+        Table("acknowledged", "Run", "acknowledged", acknowledged),
+        Table("full", "Bool", "isFull", full),
+        Table("told", "Run", "toldAll", told),
+        Table("read", "Run", "runAt", read),
+        Table("written", "List ℕ", "runBytes", written),
+        Table("acknowledge-calls", "ℕ × List ℕ", "acknowledgeCall", acknowledgements),
+        Table("reading-calls", "ℕ × List ℕ", "readingCall ofBits", read_calls, 5),
+        Table("call-lists", "List ℕ", "runAfterCalls ofBits", called, 2),
+        Table("told-fresh", "Run", "toldAll", from_fresh, 20),
+        Table("demanded", "Run", "demanded", demanded, 20),
+        Table("demanded-up-to", "Run", "shownAfter countedOf", cut, 20),
+        Table("told-nearly-full", "Run", "toldAll", nearly_full, 20),
+    ]
+    uses = (
+        *READING_USES,
+        *TAKEN_USES,
+        "declared.Run.{Run}",
+        "lib.Ieee.{ofBits}",
+        "Run.{fresh, isFull, counted, acknowledged, runAt, runBytes, readingCall, acknowledgeCall}",
+        "Histories.{Event, reading, acknowledgement, toldAll, countedOf, shownAfter, demanded, Call, read, acknowledge, runAfterCalls, freshBytes}",
+    )
+    return Chapter(12, "Run", uses, tables)
+
+
+# ---------------------------------------------------------------------------
+# 13 Refusals
+
+# The names of the reasons in the order of document 01's table.
+REASONS = (
+    "byteCount checksum blockField damagedKind laterKind outOfRange notUnit gap kink notWhole outsideFrame tooFar "
+    "beforeStart afterEnd noSuchPlace runFull recordCount tooLittleRoom"
+).split()
+
+
+def refusals(rng):
+    numbers = [Case(f"number {why}", str(number)) for number, why in enumerate(REASONS, 1)]
+    given = []
+    for number, why in enumerate(REASONS, 1):
+        given += [Case(f"refusal {why} {place}", refusal_text(number, place)) for place in (0, 1, 59, spread(rng, 2**32))]
+    verdicts = []
+    for _ in range(120):
+        rules = [(rng.randint(1, 18), spread(rng, 60), rng.randrange(5) > 0) for _ in range(rng.randint(0, 9))]
+        first = next((Refusal(number, place) for number, place, holds in rules if not holds), None)
+        texts = (f"rule {REASONS[number - 1]} {place} {truth(holds)}" for number, place, holds in rules)
+        verdicts.append(Case(f"verdict {listed(texts)}", outcome_text(first)))
+    codes = [Case("code (paperOfOutcome Done)", "0")]
+    for number in range(1, 19):
+        for place in (0, rng.randint(1, 59)):
+            codes.append(Case(f"code (paperOfOutcome (Refused {refusal_text(number, place)}))", str(crest.c_value(number, place))))
+    tables = [
+        Table("numbers", "ℕ", "number", numbers),
+        Table("given", "Refusal", "refusal", given),
+        Table("verdicts", "Outcome", "verdict", verdicts),
+        Table("codes", "ℕ", "code paperOfOutcome", codes),
+    ]
+    uses = (
+        *OUTCOME_USES,
+        "declared.Refusal.{Refusal}",
+        f"Refusals.{{Reason, number, refusal, rule, verdict, {', '.join(REASONS)}}}",
+        "Answers.{code, paperOfOutcome}",
+    )
+    return Chapter(13, "Refusals", uses, tables)
+
+
+MAKERS = (
+    rounding,
+    records,
+    acceptance,
+    writer,
+    series,
+    bound,
+    stations,
+    judged,
+    walk,
+    answers,
+    readings,
+    run,
+    refusals,
+)
+
+
+def chapters():
+    made = [maker(random.Random(SEED + number)) for number, maker in enumerate(MAKERS, 1)]
+    for chapter in made:
+        assert chapter.count >= FEWEST, (chapter.name, chapter.count)
+    return made
+
+
+# ---------------------------------------------------------------------------
+# The copy, and the checker
+
+
+def needed_crates():
+    """The lines of crates.txt for the crate and what it depends on, by name."""
+    lines = {}
+    for line in (ROOT / "crates.txt").read_text().splitlines():
+        name, colon, others = line.split("#")[0].partition(":")
+        if colon:
+            lines[name.strip()] = others.split()
+    wanted, found = [CRATE], {}
+    while wanted:
+        name = wanted.pop()
+        if name in lines and name not in found:
+            found[name] = lines[name]
+            wanted += lines[name]
+    return found
+
+
+def make_copy(folder):
+    crates = needed_crates()
+    (folder / "crates").mkdir(parents=True)
+    (folder / "crates.txt").write_text("".join(f"{name}: {' '.join(others)}\n" for name, others in crates.items()))
+    for name in crates:
+        shutil.copytree(ROOT / "crates" / name, folder / "crates" / name)
+
+
+def put_modules(folder, modules):
+    """The modules of cases, and no others, in the copy's proofs."""
+    proofs = folder / "crates" / CRATE / "proofs"
+    for old in proofs.glob("Cases*.antt"):
+        old.unlink()
+    library = (ROOT / "crates" / CRATE / "proofs" / "Lib.antt").read_text()
+    (proofs / "Lib.antt").write_text(library + "".join(f"pub mod {name}\n" for name in (FORMS, *modules)))
+    (proofs / f"{FORMS}.antt").write_text(FORMS_TEXT)
+    for name, text in modules.items():
+        (proofs / f"{name}.antt").write_text(text)
+
+
+class Verdict(NamedTuple):
+    """What the checker said: accepted, the refused (module, declaration) pairs, and all its text."""
+
+    accepted: bool
+    refused: list
+    text: str
+
+
+def ask_checker(folder, command):
+    done = subprocess.run(["rt", command, CRATE], cwd=folder, stdout=subprocess.PIPE, stderr=subprocess.STDOUT, text=True)
+    found = re.findall(r"proofs/(\w+)\.antt:\d+:\d+: error: (?:`([^`]+)`)?", done.stdout)
+    return Verdict(done.returncode == 0, found, done.stdout)
+
+
+def errors_in(text, most=12):
+    lines = [line[:400] for line in text.splitlines() if "error" in line]
+    return "\n".join(lines[:most]) or text[-2000:]
+
+
+def exchanged(chapter):
+    """A false table of a chapter: two cases with their expected values exchanged."""
+    for table in chapter.tables:
+        for other in table.cases[1:]:
+            one = table.cases[0]
+            if other.due != one.due:
+                return table._replace(name="false", cases=[Case(one.asked, other.due), Case(other.asked, one.due)])
+    raise AssertionError(chapter.name)
+
+
+def single_cases(chapter, refused):
+    """The refused declarations of a chapter again, a declaration for each case."""
+    tables, cases = [], {}
+    for table in chapter.tables:
+        for name, some in declarations(table):
+            if name in refused:
+                tables.append(table._replace(name=f"{name}-case", cases=some, size=1))
+                cases |= {f"{name}-case-{number}": case for number, case in enumerate(some, 1)}
+    return tables, cases
+
+
+def show_refused(folder, made, verdict):
+    """Each refused case by itself: what is asked, and what the reference gives."""
+    modules, cases = {}, {}
+    for chapter in made:
+        refused = {name for module, name in verdict.refused if module == chapter.module}
+        tables, some = single_cases(chapter, refused)
+        if tables:
+            modules[chapter.module] = module_text(chapter, tables)
+            cases |= {(chapter.module, name): case for name, case in some.items()}
+    print(errors_in(verdict.text))
+    if not modules:
+        return
+    put_modules(folder, modules)
+    for place in dict.fromkeys(ask_checker(folder, "dev").refused):
+        if place in cases:
+            print(f"refused: {cases[place].asked}\n  reference: {cases[place].due}")
+
+
+def check_all(folder):
+    """0 if the checker accepts every table and refuses every false one."""
+    start = time.monotonic()
+    make_copy(folder)
+    made = chapters()
+    put_modules(folder, {chapter.module: module_text(chapter, chapter.tables, chapter.after) for chapter in made})
+    written = time.monotonic()
+    verdict = ask_checker(folder, "check")
+    checked = time.monotonic()
+    refused_modules = {module for module, _ in verdict.refused}
+    for chapter in made:
+        if verdict.accepted:
+            word = "accepted"
+        elif chapter.module in refused_modules:
+            word = "REFUSED"
+        else:
+            word = "not refused, in a check that failed"
+        count = sum(1 for table in chapter.tables for _ in declarations(table)) + len(chapter.after)
+        print(f"chapter {chapter.number:2} {chapter.name:10} {chapter.count:5} cases in {count:3} declarations: {word}")
+    print(f"cases {sum(chapter.count for chapter in made)}, made in {written - start:.0f} s, checked in {checked - written:.0f} s")
+    if not verdict.accepted:
+        show_refused(folder, made, verdict)
+        return 1
+    put_modules(folder, {chapter.module: module_text(chapter, [exchanged(chapter)]) for chapter in made})
+    verdict = ask_checker(folder, "dev")
+    taken = [chapter.name for chapter in made if (chapter.module, "false-1") not in verdict.refused]
+    print(f"false tables: {len(made) - len(taken)} of {len(made)} refused, in {time.monotonic() - checked:.0f} s")
+    if taken:
+        print(f"NOT REFUSED: {', '.join(taken)}\n{errors_in(verdict.text)}")
+        return 1
+    return 0
+
+
+def main(arguments):
+    if len(arguments) > 1:
+        sys.exit("usage: definition_cases.py [FOLDER]")
+    if arguments:
+        folder = Path(arguments[0]).resolve()
+        folder.mkdir(parents=True)
+        return check_all(folder)
+    with tempfile.TemporaryDirectory(prefix="definition-cases-") as folder:
+        return check_all(Path(folder))
+
+
+if __name__ == "__main__":
+    sys.exit(main(sys.argv[1:]))

@@ -33,6 +33,23 @@ u32Bytes n = n % 256 ∷ n / 256 % 256 ∷ n / 65536 % 256 ∷ n / 16777216 % 25
 abbrev pub part : List ℕ → ℕ → ℕ → List ℕ
 part l at count = take count (drop at l)
 
+-- the bytes with others written over them from `at` on
+unfoldable pub put : List ℕ → ℕ → List ℕ → List ℕ
+put l at bytes = take at l ++ (bytes ++ drop (at + length bytes) l)
+
+-- a field: where it starts, and its bytes
+pub record Field : Type 0 where
+  pub at : ℕ
+  pub bytes : List ℕ
+
+abbrev pub field : ℕ → List ℕ → Field
+field at bytes = record { at = at; bytes = bytes }
+
+unfoldable pub putAll : List ℕ → List Field → List ℕ
+unfolding put
+putAll l [] = l
+putAll l (f ∷ fs) = putAll (put l (f .at) (f .bytes)) fs
+
 unfoldable pub allZero : List ℕ → Bool
 allZero [] = true
 allZero (b ∷ l) = eqb b 0 && allZero l

@@ -6,7 +6,7 @@ use lib.ListN.{length, take, drop, replicate}
 use lib.Dec.{leb, eqb}
 use Rattle.model.specs.declared.Outcome.{Outcome}
 use Rattle.model.specs.declared.Outcome.the-variants.{Done, Refused}
-use Rattle.model.specs.Records.{u16Bytes, u32Bytes, sumA, sumB, countOf}
+use Rattle.model.specs.Records.{put, u16Bytes, u32Bytes, sumA, sumB, countOf}
 use Rattle.model.specs.Refusals.{Rule, rule₀, verdict, recordCount, tooLittleRoom}
 use Rattle.model.specs.Acceptance.{recordsRules}
 
@@ -58,8 +58,8 @@ writerOutcome records room = verdict (writerRules records room)
 
 -- "and writes only the needed blocks": what the room holds afterwards; a refusal leaves it as it came.
 unfoldable pub roomAfter : Outcome → List ℕ → List ℕ → List ℕ
-unfolding fileOf
-roomAfter Done records room = fileOf records ++ drop (length (fileOf records)) room
+unfolding fileOf put
+roomAfter Done records room = put room 0 (fileOf records)
 roomAfter (Refused r) records room = room
 
 unfoldable pub written : List ℕ → List ℕ → List ℕ

@@ -159,14 +159,14 @@ abbrev pub point : ℤ → ℤ → Point
 point x y = record {{ x = x; y = y }}
 
 abbrev pub element : Kind → ℕ → ℤ → ℤ → ℤ → ℤ → ℤ → Element
-element kind length x y c s radius = record {{ kind = kind; length = length; x = x; y = y; c = c; s = s; radius = radius }}
+element k l x y c s r = record {{ kind = k; length = l; x = x; y = y; c = c; s = s; radius = r }}
 
 abbrev pub refused : ℕ → ℕ → Refusal
 refused number place = record {{ number = number; place = place }}
 
+-- in the order of the bytes
 abbrev pub run : ℕ → ℕ → ℕ → ℕ → ℕ → ℤ → ℤ → ℤ → Run
-run answered refused latest first reading one two three =
-    record {{ answered = answered; refused = refused; latest = latest; first = first; reading = reading; one = one; two = two; three = three }}
+run a r l f n i j k = record {{ answered = a; refused = r; latest = l; first = f; reading = n; one = i; two = j; three = k }}
 
 abbrev pub float : ℕ → Float
 float bits = ofBits binary64 bits
@@ -207,8 +207,8 @@ def declaration_text(table, name, cases):
 
 def module_text(chapter, tables, after=()):
     """A module of some tables of a chapter."""
-    uses = [*COMMON_USES, *(use if use.startswith(("lib.", "Prim.", "Rattle")) else f"{SPECS}.{use}" for use in chapter.uses)]
-    lines = [f"-- Cases of {chapter.name}, computed.", *(f"use {use}" for use in uses), ""]
+    own = (use if use.startswith(("lib.", "Rattle")) else f"{SPECS}.{use}" for use in chapter.uses)
+    lines = [f"-- Cases of {chapter.name}, computed.", *(f"use {use}" for use in (*COMMON_USES, *own)), ""]
     lines += chapter.before
     lines += [
         declaration_text(table, name, cases) for table in tables for name, cases in declarations(table)
@@ -267,7 +267,8 @@ def rounding(rng):
             halves += [near(q * d + d // 2 + by, d) for by in (-1, 0, 1)]
     small = [near(n, d) for d in range(1, 6) for n in range(-7, 8)]
     large = [near(signed(rng, 2**200), 1 + spread(rng, 2**200)) for _ in range(80)]
-    usual = [near(signed(rng, 2**90), rng.choice((ONE, 2 * ONE, 3 * ONE, 20, 30, 108, 220))) for _ in range(80)]
+    divisors = (ONE, 2 * ONE, 3 * ONE, 14 * ONE, 20, 30, 108, 220)
+    usual = [near(signed(rng, 2**90), rng.choice(divisors)) for _ in range(80)]
     tables = [
         Table("near-halves", "ℤ", "near", halves),
         Table("near-small", "ℤ", "near", small),
@@ -296,13 +297,20 @@ def records(rng):
     def twos_complement(part):
         return whole(int.from_bytes(part, "little", signed=True))
 
-    blocks = [bytes(512), bytes([255]) * 512, bytes([255]) * 508 + bytes(4), *(random_bytes(rng, 512) for _ in range(57))]
-    made = [crest.block_made(rng.randbytes(32 * rng.randint(1, 15)), rng.randrange(4)) for _ in range(20)]
-    parts = []
+    blocks = [bytes(512), bytes([255]) * 512, bytes([255]) * 508 + bytes(4)]
+    blocks += [random_bytes(rng, 512) for _ in range(57)]
+    blocks += [crest.block_made(rng.randbytes(32 * rng.randint(1, 15)), rng.randrange(4)) for _ in range(20)]
+    parts, puts = [], []
     for _ in range(40):
         data = rng.randbytes(rng.randint(0, 60))
         at, count = rng.randint(0, 64), rng.randint(0, 64)
         parts.append(Case(f"part {spelt(data)} {at} {count}", spelt(data[at : at + count])))
+        after, fields = data, []
+        for _ in range(rng.randint(0, 3)):
+            at, new = rng.randint(0, len(data)), rng.randbytes(rng.choice((0, 1, 2, 4)))
+            after = after[:at] + new + after[at + len(new) :]
+            fields.append(f"field {at} {spelt(new)}")
+        puts.append(Case(f"putAll {spelt(data)} {listed(fields)}", spelt(after)))
     zeros = []
     for _ in range(30):
         data = bytearray(rng.randint(0, 40))
@@ -333,12 +341,14 @@ def records(rng):
         Table("u32-written", "List ℕ", "part", u32_out),
         Table("parts", "List ℕ", "part", parts),
         Table("zeros", "Bool", "allZero", zeros),
-        Table("sums-A", "ℕ", "sumA", [Case(f"sumA {spelt(b)}", str(crest.sums(b)[0])) for b in blocks + made], 20),
-        Table("sums-B", "ℕ", "sumB", [Case(f"sumB {spelt(b)}", str(crest.sums(b)[1])) for b in blocks + made], 20),
+        Table("puts", "List ℕ", "putAll", puts),
+        Table("sums-A", "ℕ", "sumA", [Case(f"sumA {spelt(b)}", str(crest.sums(b)[0])) for b in blocks], 20),
+        Table("sums-B", "ℕ", "sumB", [Case(f"sumB {spelt(b)}", str(crest.sums(b)[1])) for b in blocks], 20),
         Table("record-bytes", "List ℕ", "recordBytes", used, 4),
         Table("record-starts", "ℕ", "part", starts),
     ]
-    uses = ("Records.{part, u16At, u32At, i32At, u16Bytes, u32Bytes, allZero, sumA, sumB, recordBytes, recordStart}",)
+    fields = "u16At, u32At, i32At, u16Bytes, u32Bytes, part, field, putAll"
+    uses = (f"Records.{{{fields}, allZero, sumA, sumB, recordBytes, recordStart}}",)
     return Chapter(2, "Records", uses, tables)
 
 
@@ -458,7 +468,8 @@ def out_of_range(rng, file):
 def not_unit(rng, file):
     at, element = record_at(file, some_record(rng, file))
     _, above, _, below = UNIT_LIMITS
-    pair = rng.choice((above, below, (0, 0), (ONE, ONE), (2**31 - 1, -(2**31)), (element.c, element.s ^ 4096)))
+    slip = element.c, element.s ^ 4096
+    pair = rng.choice((above, below, (0, 0), (ONE, ONE), (2**31 - 1, -(2**31)), slip))
     return changed(file, at + 16, struct.pack("<ii", *pair))
 
 
@@ -498,17 +509,30 @@ DAMAGES = (
 UNIT_LIMITS = random_crests.unit_limit_pairs()
 
 
+def limit_joins(rng, count):
+    """Two lines whose gap and kink lie on their limits, or one beyond."""
+    files = []
+    for _ in range(count):
+        x, y = (rng.choice((0, 100, -100, rng.choice((-101, 101)))) for _ in range(2))
+        bend = rng.choice((0, 1, -1)) * rng.choice((crest.KINK_LIMIT, crest.KINK_LIMIT, crest.KINK_LIMIT + 1))
+        length = rng.randint(1, 500_000)
+        first = Element(LINE, length, 0, 0, ONE, 0, 0)
+        second = Element(LINE, length, 100 * length + x, y, math.isqrt(2**60 - bend**2), bend, 0)
+        files.append(crest.file_made(records_of((first, second))))
+    return files
+
+
 def damaged_files(rng, each):
     """Files with one damage, `each` of each sort, and as many again with two."""
     files = []
     for damage in DAMAGES:
         for number in range(each):
-            # the last few of each sort lie in more than one block
-            count = rng.randint(2, 4) if number < each - 4 else rng.choice((16, 17, 31, 46))
+            # the last two of each sort lie in more than one block
+            count = rng.randint(2, 4) if number < each - 2 else rng.choice((16, 17, 31, 46))
             file, _ = crest_file(rng, count, at_limit=5)
             files.append(damage(rng, file))
     for _ in range(each * 5):
-        file, _ = crest_file(rng, rng.choice((2, 3, 4, 4, 16)), at_limit=5)
+        file, _ = crest_file(rng, rng.choice((2, 3, 4, 2, 3, 4, 16)), at_limit=5)
         first, second = sorted(rng.choices(range(1, len(DAMAGES)), k=2), reverse=True)
         # the sums are the last to be spoiled
         files.append(DAMAGES[second](rng, DAMAGES[first](rng, file)))
@@ -521,32 +545,31 @@ def acceptance(rng):
     for count in counts:
         longest = rng.choice((3, 500, 50_000)) if count > 6 else rng.choice((1, 60, 5_000, 500_000))
         accepted.append(crest_file(rng, count, longest=longest))
-    damaged = damaged_files(rng, 16)
+    damaged = damaged_files(rng, 16) + limit_joins(rng, 60)
     verdicts = [outcome_of(crest.check(file)) for file in damaged]
     for number in range(1, 10):
         given = sum(bool(verdict) and verdict.number == number for verdict in verdicts)
         assert given >= 12, (number, given)
-    good = [Case(f"checked {spelt(file)}", "Done") for file, _ in accepted]
-    bad = [Case(f"checked {spelt(file)}", outcome_text(verdict)) for file, verdict in zip(damaged, verdicts)]
     # the small files apart from the large ones, so that no declaration grows too large
-    small = [case for case, file in zip(good + bad, [f for f, _ in accepted] + damaged) if len(file) <= 512]
-    large = [case for case, file in zip(good + bad, [f for f, _ in accepted] + damaged) if len(file) > 512]
+    small, large = [], []
+    for file, verdict in [*((file, None) for file, _ in accepted), *zip(damaged, verdicts)]:
+        case = Case(f"checked {spelt(file)}", outcome_text(verdict))
+        (small if len(file) <= 512 else large).append(case)
     elements = [Case(f"crestElements {spelt(file)}", elements_text(found.elements)) for file, found in accepted]
     kinds = []
     for byte in range(256):
         fault = crest.kind_fault(byte)
         kinds.append(Case(f"decide {byte}", {0: f"Known {KINDS.get(byte)}", 4: "Damaged", 5: "Later"}[fault]))
-    outcomes, parts = [], []
-    for file, found in accepted[15:25] + accepted[45:50] + accepted[-4:-1]:
+    asked = [(file, 0) for file in damaged[::16]]
+    for file, found in accepted[15:25] + accepted[45:50] + accepted[-4:-2]:
         count = len(found.elements)
-        for record in {0, count - 1, count, count + 1, rng.randrange(count), 2**32 - 1}:
-            answer = crest.read_record(file, record)
-            outcomes.append(Case(f"readerOutcome {spelt(file)} {record}", outcome_text(Refusal(*answer[:2]) if answer.number else None)))
-            parts.append(Case(f"readerPart {spelt(file)} {record}", spelt(file[answer.start : answer.end])))
-    for file in damaged[::16]:
-        answer = crest.read_record(file, 0)
-        outcomes.append(Case(f"readerOutcome {spelt(file)} 0", outcome_text(Refusal(*answer[:2]) if answer.number else None)))
-        parts.append(Case(f"readerPart {spelt(file)} 0", spelt(file[answer.start : answer.end])))
+        asked += [(file, record) for record in (0, count - 1, count, count + 1, 2**32 - 1)]
+    outcomes, parts = [], []
+    for file, record in asked:
+        number, place, start, end = crest.read_record(file, record)
+        due = outcome_text(Refusal(number, place) if number else None)
+        outcomes.append(Case(f"readerOutcome {spelt(file)} {record}", due))
+        parts.append(Case(f"readerPart {spelt(file)} {record}", spelt(file[start:end])))
     tables = [
         Table("kinds", "KindByte", "decide", kinds, 64),
         Table("files", "Outcome", "checked", small, 10),
@@ -632,7 +655,7 @@ def sample_elements(rng, count):
         radius = 0 if kind == LINE else rng.choice((-1, 1)) * size
         corner = rng.choice((-1, 1)) * FRAME, rng.choice((-1, 1)) * FRAME
         x, y = rng.choice((corner, (0, 0), (signed(rng, FRAME), signed(rng, FRAME))))
-        c, s = rng.choice((random_crests.random_unit(rng), random_crests.random_unit(rng), UNIT_LIMITS[0], UNIT_LIMITS[2]))
+        c, s = rng.choice((*(random_crests.random_unit(rng) for _ in range(3)), UNIT_LIMITS[0], UNIT_LIMITS[2]))
         element = Element(kind, length, x, y, c, s, radius)
         assert crest.record_fault(crest.record_of(element)) == 0
         elements.append(element)
@@ -641,7 +664,8 @@ def sample_elements(rng, count):
 
 def places_on(rng, element):
     """0, L, and some between."""
-    return sorted({0, element.length, element.length // 2, rng.randint(0, element.length), spread(rng, element.length)})
+    length = element.length
+    return sorted({0, length, length // 2, rng.randint(0, length), spread(rng, length)})
 
 
 def local_text(pair):
@@ -674,65 +698,90 @@ def series(rng):
 # 6 Bound
 
 
+BOUND_UNFOLDING = "exactAlong exactAside turnOf one"
+
+
+def turn_of(element, l):
+    """φ or τ."""
+    if element.kind == LINE:
+        return Fraction(0)
+    if element.kind == ARC:
+        return Fraction(l, element.radius)
+    return Fraction(l * l, 2 * element.radius * element.length)
+
+
 def exact(element, l):
     """The three-term sums of document 01's bound as fractions: (u or U, v or V)."""
+    turn = turn_of(element, l)
     if element.kind == LINE:
         return Fraction(100 * l), Fraction(0)
     if element.kind == ARC:
-        turn = Fraction(l, element.radius)
         return (
             100 * l * (1 - turn**2 / 6 + turn**4 / 120),
             50 * l * turn * (1 - turn**2 / 12 + turn**4 / 360),
         )
-    turn = Fraction(l * l, 2 * element.radius * element.length)
     return (
         100 * l * (1 - turn**2 / 10 + turn**4 / 216),
         100 * l * turn * (1 - turn**2 / 14 + turn**4 / 440) / 3,
     )
 
 
+def same_fraction(text, value):
+    """A fraction of the definitions is the reduced one given."""
+    return Case(
+        f"{text} .numerator *ℤ pos {value.denominator}",
+        f"{whole(value.numerator)} *ℤ pos ({text} .denominator)",
+    )
+
+
+def single_statements(name, statements, proof):
+    """A declaration for each statement, with one proof for all."""
+    for number, statement in enumerate(statements, 1):
+        full = f"{name}-{number}"
+        line = f"unfolding Within2 unsignedAlong localAt lengthAt {BOUND_UNFOLDING}"
+        yield full, f"{full} : {statement}\n{line}\n{full} = {proof}\n"
+
+
 def bound(rng):
-    """Equal fractions by cross products, and the test of 2 grains on both sides of its limit."""
-    sums, positive, tests, proved, refuted = [], [], [], [], []
+    """Equal fractions by cross products, and the bound of 2 grains on both sides of its limit."""
+    turns, sums, positive, tests, bounded, beyond = [], [], [], [], [], []
     for number, element in enumerate(sample_elements(rng, 72)):
         for s in places_on(rng, element):
             l = crest.distance_from_anchor(element, s)
             u, v = crest.own_position(element, s)
             u = -u if element.kind == EXIT else u
+            kind = KINDS[element.kind]
+            turn = f"(turnOf {kind} {whole(element.radius)} {element.length} {l})"
+            turns.append(same_fraction(turn, turn_of(element, l)))
             for name, value, found in zip(("exactAlong", "exactAside"), exact(element, l), (u, v)):
-                text = f"{name} {KINDS[element.kind]} {whole(element.radius)} {element.length} {l}"
-                sums.append(
-                    Case(
-                        f"({text}) .numerator *ℤ pos {value.denominator}",
-                        f"{whole(value.numerator)} *ℤ pos (({text}) .denominator)",
-                    )
-                )
-                positive.append(Case(f"ltb 0 (({text}) .denominator)", "true"))
+                text = f"({name} {kind} {l} {turn})"
+                sums.append(same_fraction(text, value))
+                positive.append(Case(f"ltb 0 ({text} .denominator)", "true"))
                 low, high = math.ceil(value - 2), math.floor(value + 2)
                 assert low <= found <= high
                 for grains in {found, rng.choice((low, high)), rng.choice((low - 1, high + 1))}:
-                    side = f"natAbs (pos (({text}) .denominator) *ℤ {whole(grains)} -ℤ ({text}) .numerator)"
-                    tests.append(Case(f"leb ({side}) (2 * ({text}) .denominator)", truth(low <= grains <= high)))
+                    apart = f"natAbs (pos ({text} .denominator) *ℤ {whole(grains)} -ℤ {text} .numerator)"
+                    tests.append(Case(f"leb ({apart}) (2 * {text} .denominator)", truth(low <= grains <= high)))
                 if s == element.length // 2 and number < 24:
-                    proved.append((f"Within2 {whole(found)} ({text})", "leb→le _ _ tt"))
-                    wrong = rng.choice((low - 1, high + 1))
-                    refuted.append((f"Within2 {whole(wrong)} ({text}) → ⊥", "λ within. le→leb _ _ within"))
-    after = []
-    for name, statements in (("within", proved), ("beyond", refuted)):
-        for number, (statement, proof) in enumerate(statements, 1):
-            full = f"{name}-{number}"
-            text = f"{full} : {statement}\nunfolding Within2 exactAlong exactAside one\n{full} = {proof}\n"
-            after.append((full, text))
+                    beyond.append(f"Within2 {whole(rng.choice((low - 1, high + 1)))} {text} → ⊥")
+            bounded.append(f"Bounded {element_text(element)} {s}")
+    holds = "record { along = leb→le _ _ tt; aside = leb→le _ _ tt }"
+    after = [
+        *single_statements("bounded", rng.sample(bounded, 60), holds),
+        *single_statements("beyond", beyond, "λ within. le→leb _ _ within"),
+    ]
     tables = [
-        Table("sums", "ℤ", "exactAlong exactAside one", rng.sample(sums, 300)),
-        Table("denominators", "Bool", "exactAlong exactAside one", rng.sample(positive, 100)),
-        Table("within-2", "Bool", "exactAlong exactAside one", rng.sample(tests, 300)),
+        Table("turns", "ℤ", BOUND_UNFOLDING, rng.sample(turns, 100)),
+        Table("sums", "ℤ", BOUND_UNFOLDING, rng.sample(sums, 300)),
+        Table("denominators", "Bool", BOUND_UNFOLDING, rng.sample(positive, 100)),
+        Table("within-2", "Bool", BOUND_UNFOLDING, rng.sample(tests, 300)),
     ]
     uses = (
-        *KIND_USES,
+        *ELEMENT_USES,
         "lib.IntN.{natAbs, one, _*ℤ_, _-ℤ_}",
         "lib.Dec.{leb, ltb, leb→le, le→leb}",
-        "Bound.{Within2, exactAlong, exactAside}",
+        "Series.{lengthAt, localAt}",
+        "Bound.{Within2, Bounded, turnOf, exactAlong, exactAside, unsignedAlong}",
     )
     return Chapter(6, "Bound", uses, tables, after=tuple(after))
 
@@ -782,7 +831,8 @@ def stations_of(rng, alignment):
 
 def stations(rng):
     wishes = [Wish(count=count) for count in (1, 1, 2, 3, 4, 5, 8)]
-    wishes += [Wish(count=3, longest=500_000), Wish(count=5, longest=1), Wish(count=60, longest=40), Wish(count=12, longest=100_000)]
+    sizes = ((3, 500_000), (5, 1), (60, 40), (12, 100_000))
+    wishes += [Wish(count=count, longest=longest) for count, longest in sizes]
     spots, positions, tangents, distances, totals = [], [], [], [], []
     named = named_alignments(rng, wishes)
     for one in named:
@@ -791,7 +841,8 @@ def stations(rng):
         tested = stations_of(rng, alignment)
         for s in rng.sample(tested, min(30, len(tested))):
             number, along = crest.element_at(alignment, s)
-            spots.append(Case(f"spotAt {one.name} {s}", f"record {{ element = {one.element(number)}; along = {along} }}"))
+            spot = f"record {{ element = {one.element(number)}; along = {along} }}"
+            spots.append(Case(f"spotAt {one.name} {s}", spot))
             positions.append(Case(f"positionAt {one.name} {s}", point_text(crest.position_at(alignment, s))))
             tangents.append(Case(f"tangentAt {one.name} {s}", point_text(crest.direction_at(alignment, s))))
             p = random_crests.random_point(rng, alignment)
@@ -814,7 +865,10 @@ def located_text(answer):
     return f"LocatedAt {answer.station} {whole(answer.offset)} {whole(answer.residual)} {answer.count}"
 
 
-LOCATED_USES = ("declared.Located.{Located}", "declared.Located.the-variants.{At as LocatedAt, Refused as LocatedRefused}")
+LOCATED_USES = (
+    "declared.Located.{Located}",
+    "declared.Located.the-variants.{At as LocatedAt, Refused as LocatedRefused}",
+)
 
 
 def short_wish(rng, longest=60):
@@ -837,7 +891,7 @@ def judged(rng):
     seen = set()
     for one in named:
         alignment = one.alignment
-        for p in points_for(rng, alignment, 6):
+        for p in points_for(rng, alignment, 5):
             s = crest.station_judged(alignment, p)
             stations_.append(Case(f"judged {one.name} {point_text(p)}", str(s)))
             at = rng.choice((s, s, random_crests.random_station(rng, alignment)))
@@ -896,7 +950,7 @@ def walk(rng):
         kept = 0
         for p in points_for(rng, alignment, 12):
             walked = crest.walk(alignment, lambda s: crest.squared_distance(alignment, p, s))
-            if walked.count > 600 or kept == 4:
+            if walked.count > 250 or kept == 4:
                 continue
             kept += 1
             skipped += walked.second[-1] - len(walked.second) + 1 > 0
@@ -959,28 +1013,31 @@ def some_move(rng):
 
     turn = rng.choice((-1, 1))
     limits = [(turn * c, s) for c, s in UNIT_LIMITS]
-    heading = rng.choice((random_crests.random_unit(rng), random_crests.random_unit(rng), rng.choice(limits), (0, 0)))
+    units = [random_crests.random_unit(rng) for _ in range(3)]
+    heading = rng.choice((*units, rng.choice(limits), (0, 0)))
     return (place(), place()), (place(), place()), heading
 
 
 def answers(rng):
-    inverses, at, file_inverses, placed, moves, calls = [], [], [], [], [], []
-    edge = [Wish(count=2, middle=(FRAME, -FRAME + 5), heading=(0, ONE), kinds=(LINE,), gap=0)]
-    named = named_alignments(rng, [Wish(count=n, longest=m) for n in (1, 2, 5, 20) for m in (60, 500_000)] + edge)
+    inverses, file_inverses, placed, moves, calls = [], [], [], [], []
+    seen = set()
+    edge = Wish(count=2, middle=(FRAME, -FRAME + 5), heading=(0, ONE), kinds=(LINE,), gap=0)
+    named = named_alignments(rng, [edge, *(Wish(count=n, longest=m) for n in (1, 2, 5, 20) for m in (60, 500_000))])
     for one in named:
         for _ in range(20):
             s, w = some_place(rng, one.alignment.total)
             answer = crest.line_answer(one.alignment, s, w)
-            inverses.append((answer.number, Case(f"inverseOn {one.name} {whole(s)} {whole(w)}", inverse_text(answer))))
-    assert {number for number, _ in inverses} == {0, 11, 15}
-    inverses = [case for _, case in inverses]
+            seen.add(answer.number)
+            inverses.append(Case(f"inverseOn {one.name} {whole(s)} {whole(w)}", inverse_text(answer)))
+    assert seen == {0, 11, 15}, seen
     for _ in range(40):
         file, alignment = crest_file(rng, rng.choice((1, 2, 3)), longest=rng.choice((50, 500_000)))
         total = alignment.total
         if rng.randrange(4) == 0:
             file = rng.choice(DAMAGES)(rng, file)
         s, w = some_place(rng, total)
-        file_inverses.append(Case(f"inverse {spelt(file)} {whole(s)} {whole(w)}", inverse_text(crest.inverse(file, s, w))))
+        due = inverse_text(crest.inverse(file, s, w))
+        file_inverses.append(Case(f"inverse {spelt(file)} {whole(s)} {whole(w)}", due))
         s = rng.choice((0, total, total + 1, rng.randint(0, total), 2**32))
         placed.append(Case(f"placed {spelt(file)} {s}", placed_text(crest.position_and_direction(file, s))))
     seen = set()
@@ -1022,8 +1079,8 @@ INFINITY = 0x7FF << 52
 MINUS = 1 << 63
 ODD_FLOATS = (
     *(0, 1, 2, (1 << 52) - 1, 1 << 52),  # zero, the smallest numbers
-    *(INFINITY - 1, INFINITY, INFINITY + 1, INFINITY + (1 << 51), (1 << 63) - 1),  # the largest, infinity, no numbers
-    *(1023 << 52, (1023 << 52) - 1, (1023 << 52) + 1, (1022 << 52), (1024 << 52) + (1 << 51)),  # around 1, a half, 3
+    *(INFINITY - 1, INFINITY, INFINITY + 1, INFINITY + (1 << 51), MINUS - 1),  # the largest, infinity, no numbers
+    *((1023 << 52) - 1, 1023 << 52, (1023 << 52) + 1, 1022 << 52, (1024 << 52) + (1 << 51)),  # 1, a half, 3
     *((1075 << 52) - 1, (1075 << 52) - 2, 1075 << 52, (1075 << 52) + 1, (1074 << 52) + 1),  # around 2^52
     *((1076 << 52) - 1, 1076 << 52, (1076 << 52) + 1, 1086 << 52, 1139 << 52),  # 2^53, 2^63, 2^116
 )
@@ -1041,6 +1098,11 @@ def taken_text(reading, answer):
     if isinstance(reading, crest.PlanePoint):
         return f"TakenPoint {a} {whole(b)} {whole(c)} {answer.count}"
     return f"TakenPlace {whole(a)} {whole(b)}"
+
+
+def display_text(pair):
+    station, offset = (float_text(crest.f64_bits(number)) for number in pair)
+    return f"record {{ station = {station}; offset = {offset} }}"
 
 
 def reading_text(reading):
@@ -1082,31 +1144,35 @@ def readings(rng):
     patterns += [crest.f64_bits(float(signed(rng, 2**60))) for _ in range(40)]
     patterns += [crest.f64_bits(signed(rng, 2**40) / 2 ** rng.randint(1, 30)) for _ in range(30)]
     patterns += [rng.getrandbits(64) for _ in range(20)]
-    patterns += [(rng.randint(1020, 1080) << 52) | (rng.getrandbits(53) << rng.randint(0, 52)) & ((1 << 52) - 1) for _ in range(60)]
+    for _ in range(60):  # from 1/8 to 2^57, with any number of low digits zero
+        digits = rng.getrandbits(52) << rng.randint(0, 52) & (1 << 52) - 1
+        patterns.append(rng.randint(1020, 1080) << 52 | digits)
     wholes = []
     for bits in patterns:
         found = crest.whole_of_f64(bits)
-        wholes.append(Case(f"wholeOf {float_text(bits)}", "none" if found is None else f"whole {whole(found)}"))
-    taken = []
+        due = "none" if found is None else f"whole {whole(found)}"
+        wholes.append(Case(f"wholeOf {float_text(bits)}", due))
+    taken, seen = [], set()
     for _ in range(90):
         file, alignment = short_crest(rng)
         reading = some_reading(rng, alignment)
         answer = crest.reading_answer(crest.check(file), reading)
-        taken.append((answer.number, Case(f"taken {spelt(file)} {reading_text(reading)}", taken_text(reading, answer))))
-    assert {0, 10, 11, 13, 14, 15} <= {number for number, _ in taken}, sorted(number for number, _ in taken)
-    taken = [case for _, case in taken]
-    pairs = [(0, 0), (30_000_000, 20_000_424), (1, -1), (5, 300), (7, -50), (2**53 + 1, 2**53 + 1), (2**64 - 1, -(2**63))]
+        seen.add(answer.number)
+        taken.append(Case(f"taken {spelt(file)} {reading_text(reading)}", taken_text(reading, answer)))
+    assert {0, 10, 11, 13, 14, 15} <= seen, seen
+    pairs = [(0, 0), (30_000_000, 20_000_424), (1, -1), (5, 300), (7, -50)]
+    pairs += [(2**53 + 1, 2**53 + 1), (2**64 - 1, -(2**63))]
     pairs += [(spread(rng, 30_000_000), signed(rng, 20_000_424)) for _ in range(60)]
     pairs += [(spread(rng, 2**64 - 1), signed(rng, 2**63 - 1)) for _ in range(40)]
     displays = []
     for station, offset in pairs:
-        shown_pair = [float_text(crest.f64_bits(n)) for n in crest.display_pair(station, offset)]
         answer = f"(TakenPoint {station} {whole(offset)} {whole(signed(rng, 200))} {spread(rng, 10**6)})"
-        displays.append(Case(f"displayOf {answer}", f"record {{ station = {shown_pair[0]}; offset = {shown_pair[1]} }}"))
-    nothing = "record { station = float 0; offset = float 0 }"
+        displays.append(Case(f"displayOf {answer}", display_text(crest.display_pair(station, offset))))
+    nothing = display_text((0.0, 0.0))
     for number in range(1, 16):
+        place = f"(TakenPlace {whole(signed(rng, FRAME))} {whole(signed(rng, FRAME))})"
+        displays.append(Case(f"displayOf {place}", nothing))
         displays.append(Case(f"displayOf (TakenRefused {refusal_text(number, spread(rng, 60))})", nothing))
-        displays.append(Case(f"displayOf (TakenPlace {whole(signed(rng, FRAME))} {whole(signed(rng, FRAME))})", nothing))
     tables = [
         Table("wholes", "Whole", "wholeOf ofBits", wholes),
         Table("taken", "Taken", "taken ofBits", taken, 5),
@@ -1279,7 +1345,8 @@ def run(rng):
         "declared.Run.{Run}",
         "lib.Ieee.{ofBits}",
         "Run.{fresh, isFull, counted, acknowledged, runAt, runBytes, readingCall, acknowledgeCall}",
-        "Histories.{Event, reading, acknowledgement, toldAll, countedOf, shownAfter, demanded, Call, read, acknowledge, runAfterCalls, freshBytes}",
+        "Histories.{Event, reading, acknowledgement, toldAll, countedOf, shownAfter, demanded}",
+        "Histories.{Call, read, acknowledge, runAfterCalls, freshBytes}",
     )
     return Chapter(12, "Run", uses, tables)
 
@@ -1298,7 +1365,8 @@ def refusals(rng):
     numbers = [Case(f"number {why}", str(number)) for number, why in enumerate(REASONS, 1)]
     given = []
     for number, why in enumerate(REASONS, 1):
-        given += [Case(f"refusal {why} {place}", refusal_text(number, place)) for place in (0, 1, 59, spread(rng, 2**32))]
+        for place in (0, 1, 59, spread(rng, 2**32)):
+            given.append(Case(f"refusal {why} {place}", refusal_text(number, place)))
     verdicts = []
     for _ in range(120):
         rules = [(rng.randint(1, 18), spread(rng, 60), rng.randrange(5) > 0) for _ in range(rng.randint(0, 9))]
@@ -1308,7 +1376,8 @@ def refusals(rng):
     codes = [Case("code (paperOfOutcome Done)", "0")]
     for number in range(1, 19):
         for place in (0, rng.randint(1, 59)):
-            codes.append(Case(f"code (paperOfOutcome (Refused {refusal_text(number, place)}))", str(crest.c_value(number, place))))
+            outcome = f"(Refused {refusal_text(number, place)})"
+            codes.append(Case(f"code (paperOfOutcome {outcome})", str(crest.c_value(number, place))))
     tables = [
         Table("numbers", "ℕ", "number", numbers),
         Table("given", "Refusal", "refusal", given),
@@ -1371,7 +1440,8 @@ def needed_crates():
 def make_copy(folder):
     crates = needed_crates()
     (folder / "crates").mkdir(parents=True)
-    (folder / "crates.txt").write_text("".join(f"{name}: {' '.join(others)}\n" for name, others in crates.items()))
+    lines = (f"{name}: {' '.join(others)}\n" for name, others in crates.items())
+    (folder / "crates.txt").write_text("".join(lines))
     for name in crates:
         shutil.copytree(ROOT / "crates" / name, folder / "crates" / name)
 
@@ -1397,7 +1467,8 @@ class Verdict(NamedTuple):
 
 
 def ask_checker(folder, command):
-    done = subprocess.run(["rt", command, CRATE], cwd=folder, stdout=subprocess.PIPE, stderr=subprocess.STDOUT, text=True)
+    words = ["rt", command, CRATE]
+    done = subprocess.run(words, cwd=folder, stdout=subprocess.PIPE, stderr=subprocess.STDOUT, text=True)
     found = re.findall(r"proofs/(\w+)\.antt:\d+:\d+: error: (?:`([^`]+)`)?", done.stdout)
     return Verdict(done.returncode == 0, found, done.stdout)
 
@@ -1446,6 +1517,17 @@ def show_refused(folder, made, verdict):
             print(f"refused: {cases[place].asked}\n  reference: {cases[place].due}")
 
 
+def report(made, verdict):
+    """A line for each chapter."""
+    refused = {module for module, _ in verdict.refused}
+    for chapter in made:
+        parts = sum(1 for table in chapter.tables for _ in declarations(table)) + len(chapter.after)
+        word = "accepted"
+        if not verdict.accepted:
+            word = "REFUSED" if chapter.module in refused else "no error here, but the check failed"
+        print(f"{chapter.number:2} {chapter.name:10} {chapter.count:5} cases, {parts:3} declarations: {word}")
+
+
 def check_all(folder):
     """0 if the checker accepts every table and refuses every false one."""
     start = time.monotonic()
@@ -1455,17 +1537,9 @@ def check_all(folder):
     written = time.monotonic()
     verdict = ask_checker(folder, "check")
     checked = time.monotonic()
-    refused_modules = {module for module, _ in verdict.refused}
-    for chapter in made:
-        if verdict.accepted:
-            word = "accepted"
-        elif chapter.module in refused_modules:
-            word = "REFUSED"
-        else:
-            word = "not refused, in a check that failed"
-        count = sum(1 for table in chapter.tables for _ in declarations(table)) + len(chapter.after)
-        print(f"chapter {chapter.number:2} {chapter.name:10} {chapter.count:5} cases in {count:3} declarations: {word}")
-    print(f"cases {sum(chapter.count for chapter in made)}, made in {written - start:.0f} s, checked in {checked - written:.0f} s")
+    report(made, verdict)
+    total = sum(chapter.count for chapter in made)
+    print(f"{total} cases, made in {written - start:.0f} s, checked in {checked - written:.0f} s")
     if not verdict.accepted:
         show_refused(folder, made, verdict)
         return 1

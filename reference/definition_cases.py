@@ -166,7 +166,8 @@ refused number place = record {{ number = number; place = place }}
 
 -- in the order of the bytes
 abbrev pub run : ℕ → ℕ → ℕ → ℕ → ℕ → ℤ → ℤ → ℤ → Run
-run a r l f n i j k = record {{ answered = a; refused = r; latest = l; first = f; reading = n; one = i; two = j; three = k }}
+run a r l f n i j k =
+    record {{ answered = a; refused = r; latest = l; first = f; reading = n; one = i; two = j; three = k }}
 
 abbrev pub float : ℕ → Float
 float bits = ofBits binary64 bits
@@ -207,7 +208,7 @@ def declaration_text(table, name, cases):
 
 def module_text(chapter, tables, after=()):
     """A module of some tables of a chapter."""
-    own = (use if use.startswith(("lib.", "Rattle")) else f"{SPECS}.{use}" for use in chapter.uses)
+    own = (use if use.startswith(("lib.", "Prim.", "Rattle")) else f"{SPECS}.{use}" for use in chapter.uses)
     lines = [f"-- Cases of {chapter.name}, computed.", *(f"use {use}" for use in (*COMMON_USES, *own)), ""]
     lines += chapter.before
     lines += [
@@ -561,21 +562,24 @@ def acceptance(rng):
         fault = crest.kind_fault(byte)
         kinds.append(Case(f"decide {byte}", {0: f"Known {KINDS.get(byte)}", 4: "Damaged", 5: "Later"}[fault]))
     asked = [(file, 0) for file in damaged[::16]]
-    for file, found in accepted[15:25] + accepted[45:50] + accepted[-4:-2]:
+    for file, found in accepted[17:23] + accepted[45:48] + accepted[-3:-2]:
         count = len(found.elements)
         asked += [(file, record) for record in (0, count - 1, count, count + 1, 2**32 - 1)]
-    outcomes, parts = [], []
+    outcomes, spans, parts = [], [], []
     for file, record in asked:
         number, place, start, end = crest.read_record(file, record)
         due = outcome_text(Refusal(number, place) if number else None)
         outcomes.append(Case(f"readerOutcome {spelt(file)} {record}", due))
+        span = f"record {{ start = {start}; count = {end - start} }}"
+        spans.append(Case(f"readerSpan {spelt(file)} {record}", span))
         parts.append(Case(f"readerPart {spelt(file)} {record}", spelt(file[start:end])))
     tables = [
         Table("kinds", "KindByte", "decide", kinds, 64),
         Table("files", "Outcome", "checked", small, 10),
         Table("large-files", "Outcome", "checked", large, 2),
         Table("elements", "List Element", "crestElements", elements, 8),
-        Table("reader", "Outcome", "readerOutcome", outcomes, 8),
+        Table("reader", "Outcome", "readerOutcome", outcomes[::2], 8),
+        Table("reader-spans", "Span", "readerSpan", spans[1::2], 8),
         Table("reader-parts", "List ℕ", "readerPart", parts, 8),
     ]
     uses = (
@@ -585,7 +589,7 @@ def acceptance(rng):
         "declared.KindByte.the-variants.{Damaged, Known, Later}",
         "Kinds.{decide}",
         "Acceptance.{checked, crestElements}",
-        "Answers.{readerOutcome, readerPart}",
+        "Answers.{Span, readerOutcome, readerSpan, readerPart}",
     )
     return Chapter(3, "Acceptance", uses, tables)
 
@@ -833,16 +837,18 @@ def stations(rng):
     wishes = [Wish(count=count) for count in (1, 1, 2, 3, 4, 5, 8)]
     sizes = ((3, 500_000), (5, 1), (60, 40), (12, 100_000))
     wishes += [Wish(count=count, longest=longest) for count, longest in sizes]
-    spots, positions, tangents, distances, totals = [], [], [], [], []
+    elements, positions, tangents, distances, totals, allowed = [], [], [], [], [], []
     named = named_alignments(rng, wishes)
     for one in named:
         alignment = one.alignment
         totals.append(Case(f"total {one.name}", str(alignment.total)))
+        for s in (-(2**40), -1, 0, 1, alignment.total - 1, alignment.total, alignment.total + 1):
+            allowed.append(Case(f"isStation {one.name} {whole(s)}", truth(0 <= s <= alignment.total)))
         tested = stations_of(rng, alignment)
         for s in rng.sample(tested, min(30, len(tested))):
             number, along = crest.element_at(alignment, s)
-            spot = f"record {{ element = {one.element(number)}; along = {along} }}"
-            spots.append(Case(f"spotAt {one.name} {s}", spot))
+            due = f"record {{ element = {one.element(number)}; s = {along} }}"
+            elements.append(Case(f"atStation {one.name} {s}", due))
             positions.append(Case(f"positionAt {one.name} {s}", point_text(crest.position_at(alignment, s))))
             tangents.append(Case(f"tangentAt {one.name} {s}", point_text(crest.direction_at(alignment, s))))
             p = random_crests.random_point(rng, alignment)
@@ -850,12 +856,13 @@ def stations(rng):
             distances.append(Case(f"D {one.name} {point_text(p)} {s}", str(d)))
     tables = [
         Table("totals", "ℕ", "total", totals),
-        Table("spots", "Spot", "spotAt", spots),
+        Table("allowed", "Bool", "isStation", allowed),
+        Table("elements", "AtElement", "atStation", elements),
         Table("positions", "Point", "positionAt", positions),
         Table("tangents", "Point", "tangentAt", tangents),
         Table("distances", "ℕ", "D", distances),
     ]
-    uses = (*ELEMENT_USES, "Stations.{Spot, total, spotAt, positionAt, tangentAt, D}")
+    uses = (*ELEMENT_USES, "Stations.{AtElement, total, isStation, atStation, positionAt, tangentAt, D}")
     return Chapter(7, "Stations", uses, tables, shown(named))
 
 
@@ -938,7 +945,7 @@ def walk(rng):
         further = math.isqrt(best) + rng.choice((0, 29, 30, 31, 32, 180, 181, 182, spread(rng, 10**8)))
         d = further**2 + rng.randint(0, 2 * further)
         surplus = math.isqrt(d) - math.isqrt(best)
-        skips.append(Case(f"leftOut {d} {best}", str((surplus - 31) // 150 if surplus >= 31 else 0)))
+        skips.append(Case(f"skipped {d} {best}", str((surplus - 31) // 150 if surplus >= 31 else 0)))
     second, counts, both = [], [], []
     wishes = [short_wish(rng, 120) for _ in range(24)]
     wishes += [Wish(count=rng.randint(1, 4), longest=rng.choice((500, 5_000, 30_000, 500_000))) for _ in range(40)]
@@ -961,15 +968,15 @@ def walk(rng):
     tables = [
         Table("first", "List ℕ", "firstVisits", first, 25),
         Table("roots", "ℕ", "root", roots),
-        Table("skips", "ℕ", "leftOut", skips),
+        Table("skips", "ℕ", "skipped", skips),
         Table("second", "List ℕ", "secondVisits", second, 10),
-        Table("counts", "ℕ", "visitCount", counts, 10),
+        Table("counts", "ℕ", "visitCount", counts[::2], 10),
         Table("both", "List ℕ", "visits", both[::4], 10),
     ]
     uses = (
         *ELEMENT_USES,
         "Rattle.integers.specs.Root.{root}",
-        "Walk.{firstVisits, leftOut, secondVisits, visits, visitCount}",
+        "Walk.{firstVisits, skipped, secondVisits, visits, visitCount}",
     )
     return Chapter(9, "Walk", uses, tables, shown(named))
 
@@ -1038,8 +1045,8 @@ def answers(rng):
         s, w = some_place(rng, total)
         due = inverse_text(crest.inverse(file, s, w))
         file_inverses.append(Case(f"inverse {spelt(file)} {whole(s)} {whole(w)}", due))
-        s = rng.choice((0, total, total + 1, rng.randint(0, total), 2**32))
-        placed.append(Case(f"placed {spelt(file)} {s}", placed_text(crest.position_and_direction(file, s))))
+        s, _ = some_place(rng, total)
+        placed.append(Case(f"placed {spelt(file)} {whole(s)}", placed_text(crest.position_and_direction(file, s))))
     seen = set()
     for _ in range(120):
         own, target, (c, s) = some_move(rng)
@@ -1084,20 +1091,21 @@ ODD_FLOATS = (
     *((1075 << 52) - 1, (1075 << 52) - 2, 1075 << 52, (1075 << 52) + 1, (1074 << 52) + 1),  # around 2^52
     *((1076 << 52) - 1, 1076 << 52, (1076 << 52) + 1, 1086 << 52, 1139 << 52),  # 2^53, 2^63, 2^116
 )
-TAKEN_USES = (
-    "declared.Taken.{Taken}",
-    "declared.Taken.the-variants.{PlanePoint as TakenPoint, LinePlace as TakenPlace, Refused as TakenRefused}",
+ANSWER_NAMES = "PlanePoint as AnswerPoint, LinePlace as AnswerPlace, Refused as AnswerRefused"
+ANSWER_USES = (
+    "declared.ReadingAnswer.{ReadingAnswer}",
+    f"declared.ReadingAnswer.the-variants.{{{ANSWER_NAMES}}}",
 )
 READING_USES = ("declared.Reading.{Reading}", "declared.Reading.the-variants.{PlanePoint, LinePlace}")
 
 
-def taken_text(reading, answer):
+def answer_text(reading, answer):
     if answer.number:
-        return f"TakenRefused {refusal_text(answer.number, answer.place)}"
+        return f"AnswerRefused {refusal_text(answer.number, answer.place)}"
     a, b, c = answer.three
     if isinstance(reading, crest.PlanePoint):
-        return f"TakenPoint {a} {whole(b)} {whole(c)} {answer.count}"
-    return f"TakenPlace {whole(a)} {whole(b)}"
+        return f"AnswerPoint {a} {whole(b)} {whole(c)} {answer.count}"
+    return f"AnswerPlace {whole(a)} {whole(b)}"
 
 
 def display_text(pair):
@@ -1152,13 +1160,14 @@ def readings(rng):
         found = crest.whole_of_f64(bits)
         due = "none" if found is None else f"whole {whole(found)}"
         wholes.append(Case(f"wholeOf {float_text(bits)}", due))
-    taken, seen = [], set()
+    answered, seen = [], set()
     for _ in range(90):
         file, alignment = short_crest(rng)
         reading = some_reading(rng, alignment)
         answer = crest.reading_answer(crest.check(file), reading)
         seen.add(answer.number)
-        taken.append(Case(f"taken {spelt(file)} {reading_text(reading)}", taken_text(reading, answer)))
+        due = answer_text(reading, answer)
+        answered.append(Case(f"answerTo {spelt(file)} {reading_text(reading)}", due))
     assert {0, 10, 11, 13, 14, 15} <= seen, seen
     pairs = [(0, 0), (30_000_000, 20_000_424), (1, -1), (5, 300), (7, -50)]
     pairs += [(2**53 + 1, 2**53 + 1), (2**64 - 1, -(2**63))]
@@ -1166,24 +1175,24 @@ def readings(rng):
     pairs += [(spread(rng, 2**64 - 1), signed(rng, 2**63 - 1)) for _ in range(40)]
     displays = []
     for station, offset in pairs:
-        answer = f"(TakenPoint {station} {whole(offset)} {whole(signed(rng, 200))} {spread(rng, 10**6)})"
+        answer = f"(AnswerPoint {station} {whole(offset)} {whole(signed(rng, 200))} {spread(rng, 10**6)})"
         displays.append(Case(f"displayOf {answer}", display_text(crest.display_pair(station, offset))))
     nothing = display_text((0.0, 0.0))
     for number in range(1, 16):
-        place = f"(TakenPlace {whole(signed(rng, FRAME))} {whole(signed(rng, FRAME))})"
+        place = f"(AnswerPlace {whole(signed(rng, FRAME))} {whole(signed(rng, FRAME))})"
         displays.append(Case(f"displayOf {place}", nothing))
-        displays.append(Case(f"displayOf (TakenRefused {refusal_text(number, spread(rng, 60))})", nothing))
+        displays.append(Case(f"displayOf (AnswerRefused {refusal_text(number, spread(rng, 60))})", nothing))
     tables = [
         Table("wholes", "Whole", "wholeOf ofBits", wholes),
-        Table("taken", "Taken", "taken ofBits", taken, 5),
+        Table("answers", "ReadingAnswer", "answerTo ofBits", answered, 5),
         Table("displays", "Display", "displayOf ofInt div ofBits", displays, 25),
     ]
     uses = (
         *READING_USES,
-        *TAKEN_USES,
+        *ANSWER_USES,
         "declared.Display.{Display}",
         "lib.Ieee.{ofBits, ofInt, div}",
-        "Readings.{Whole, whole, none, wholeOf, taken, displayOf}",
+        "Readings.{Whole, whole, none, wholeOf, answerTo, displayOf}",
     )
     return Chapter(11, "Readings", uses, tables)
 
@@ -1212,66 +1221,61 @@ def random_run(rng, full=False):
     return crest.Run(answered, refused, u16(), first, reading, u16(), three)
 
 
-class Told(NamedTuple):
-    """An outcome for a run, with its text."""
-
-    outcome: crest.ReadingAnswer
-    text: str
+def shown_text(outcome):
+    one, two, three = map(whole, outcome.three)
+    return f"(shown {outcome.number} {one} {two} {three})"
 
 
-def random_outcome(rng):
+SHOWN_FORM = """-- the number and the three values of an outcome
+abbrev shown : ℕ → ℤ → ℤ → ℤ → Shown
+shown n i j k = record { number = n; one = i; two = j; three = k }
+"""
+
+
+def random_answer(rng):
+    """(an outcome, its text as an answer)."""
     choice = rng.randrange(3)
     if choice == 0:
         number, place = rng.randint(1, 15), rng.choice((0, 0, 3, 59))
-        return Told(crest.ReadingAnswer(number, place), f"(TakenRefused {refusal_text(number, place)})")
+        return crest.ReadingAnswer(number, place), f"(AnswerRefused {refusal_text(number, place)})"
     if choice == 1:
         x, y = signed(rng, FRAME), signed(rng, FRAME)
-        return Told(crest.ReadingAnswer(0, 0, (x, y, 0)), f"(TakenPlace {whole(x)} {whole(y)})")
+        return crest.ReadingAnswer(0, 0, (x, y, 0)), f"(AnswerPlace {whole(x)} {whole(y)})"
     three = spread(rng, 30_000_000), signed(rng, 20_000_424), signed(rng, 200)
     visits = spread(rng, 10**6)
-    text = f"(TakenPoint {three[0]} {whole(three[1])} {whole(three[2])} {visits})"
-    return Told(crest.ReadingAnswer(0, 0, three, visits), text)
-
-
-def history(rng, length):
-    """Outcomes, and None for an acknowledgement."""
-    often = rng.choice((2, 4, 8, 1000))
-    return [None if rng.randrange(often) == 0 else random_outcome(rng) for _ in range(length)]
-
-
-def history_text(events):
-    return listed("acknowledgement" if told is None else f"reading {told.text}" for told in events)
-
-
-def run_told(state, events, limit=crest.RUN_LIMIT):
-    for told in events:
-        if told is None:
-            state = crest.acknowledged(state)
-        elif state.answered + state.refused < limit:
-            state = crest.run_after(state, told.outcome)
-    return state
+    text = f"(AnswerPoint {three[0]} {whole(three[1])} {whole(three[2])} {visits})"
+    return crest.ReadingAnswer(0, 0, three, visits), text
 
 
 def run_record(rng):
-    counted, acknowledged, told, read, written, full = [], [], [], [], [], []
+    """The run by value and as bytes, from states of every sort."""
+    shown_, counted, acknowledged, read, written, full = [], [], [], [], [], []
     for _ in range(60):
-        state, one = random_run(rng), random_outcome(rng)
-        counted.append(Case(f"counted {one.text} {run_text(state)}", run_text(crest.run_after(state, one.outcome))))
+        state, (outcome, text) = random_run(rng), random_answer(rng)
+        shown_.append(Case(f"shownOf {text}", shown_text(outcome)))
+        due = run_text(crest.run_after(state, outcome))
+        counted.append(Case(f"counted {shown_text(outcome)} {run_text(state)}", due))
         state = random_run(rng, full=True)
         acknowledged.append(Case(f"acknowledged {run_text(state)}", run_text(crest.acknowledged(state))))
         full.append(Case(f"isFull {run_text(state)}", truth(crest.run_is_full(state))))
-        events = history(rng, 1)
-        told.append(Case(f"toldAll {history_text(events)} {run_text(state)}", run_text(run_told(state, events))))
         data = random_bytes(rng, 24)
         read.append(Case(f"runAt {spelt(data)}", run_text(crest.run_of(data))))
         old = random_bytes(rng, 24)
         due = crest.bytes_of_run(state._replace(spare=crest.run_of(old).spare))
         written.append(Case(f"runBytes {run_text(state)} {spelt(old)}", spelt(due)))
-    return counted, acknowledged, told, read, written, full
+    return [
+        Table("shown", "Shown", "shownOf", shown_),
+        Table("counted", "Run", "counted", counted),
+        Table("acknowledged", "Run", "acknowledged", acknowledged),
+        Table("full", "Bool", "isFull", full),
+        Table("read", "Run", "runAt", read),
+        Table("written", "List ℕ", "runBytes", written),
+    ]
 
 
 def run_calls(rng):
-    acknowledgements, read_calls, called = [], [], []
+    """The C calls on any bytes, and a reading on a run by value."""
+    acknowledgements, read_calls, noted, checks = [], [], [], []
     for number in range(60):
         length = 24 if number % 3 else rng.choice((0, 1, 8, 23, 25, 48, 512))
         data = random_bytes(rng, length)
@@ -1281,88 +1285,138 @@ def run_calls(rng):
     for number in range(90):
         file, alignment = short_crest(rng)
         reading = some_reading(rng, alignment)
-        state = crest.bytes_of_run(random_run(rng, full=number % 10 == 0))
-        data = state if number % 8 else random_bytes(rng, rng.choice((0, 1, 23, 25, 24)))
+        state = random_run(rng, full=number % 10 == 0)
+        data = crest.bytes_of_run(state) if number % 8 else random_bytes(rng, rng.choice((0, 1, 23, 25, 24)))
         value, after = crest.c_reading(file, reading, data)
         returned.add(value % 256)
-        read_calls.append(
-            Case(f"readingCall {spelt(file)} {reading_text(reading)} {spelt(data)}", f"({value}, {spelt(after)})")
-        )
+        asked = f"{spelt(file)} {reading_text(reading)}"
+        read_calls.append(Case(f"readingCall {asked} {spelt(data)}", f"({value}, {spelt(after)})"))
+        answer, after = crest.take_reading(state, crest.check(file), reading)
+        due = f"record {{ answer = {answer_text(reading, answer)}; run = {run_text(after)} }}"
+        noted.append(Case(f"noted {asked} {run_text(state)}", due))
+        checks.append(Case(f"checkCall {spelt(file)}", str(crest.crest_check(file))))
     assert {0, 10, 16, 18} <= returned, returned
-    for _ in range(15):
-        data, texts = bytes(24), []
-        file, alignment = short_crest(rng)
-        for _ in range(rng.randint(1, 5)):
-            if rng.randrange(4) == 0:
-                data = crest.crest_acknowledge(data)[1]
-                texts.append("acknowledge")
-            else:
-                reading = some_reading(rng, alignment)
-                data = crest.c_reading(file, reading, data)[1]
-                texts.append(f"read {spelt(file)} {reading_text(reading)}")
-        called.append(Case(f"runAfterCalls {listed(texts)} freshBytes", spelt(data)))
-    return acknowledgements, read_calls, called
+    return [
+        Table("acknowledge-calls", "ℕ × List ℕ", "acknowledgeCall", acknowledgements),
+        Table("reading-calls", "ℕ × List ℕ", "readingCall ofBits", read_calls, 5),
+        Table("noted", "Noted", "noted ofBits", noted[::2], 5),
+        Table("check-calls", "ℕ", "checkCall", checks[::3], 5),
+    ]
+
+
+class Call(NamedTuple):
+    """A reading's outcome, or None for an acknowledgement, with the call's text."""
+
+    outcome: crest.ReadingAnswer
+    text: str
+
+
+ACKNOWLEDGE = Call(None, "acknowledge")
+
+
+def random_calls(rng):
+    """Calls on one short crest, which is now and then damaged."""
+    file, alignment = random_crests.random_file(rng, short_wish(rng, 8))
+    if rng.randrange(8) == 0:
+        file = rng.choice(DAMAGES)(rng, file)
+    calls = []
+    for _ in range(rng.randint(0, 5)):
+        reading = some_reading(rng, alignment)
+        outcome = crest.reading_answer(crest.check(file), reading)
+        call = Call(outcome, f"read {spelt(file)} {reading_text(reading)}")
+        calls.append(ACKNOWLEDGE if rng.randrange(4) == 0 else call)
+    return calls
+
+
+def run_told(state, outcomes, limit=crest.RUN_LIMIT):
+    """The run after outcomes, None for an acknowledgement, that counts up to a limit of readings."""
+    for outcome in outcomes:
+        if outcome is None:
+            state = crest.acknowledged(state)
+        elif state.answered + state.refused < limit:
+            state = crest.run_after(state, outcome)
+    return state
+
+
+def event_text(outcome):
+    return "acknowledgement" if outcome is None else f"came {shown_text(outcome)}"
 
 
 def histories(rng):
-    """What a run is told one after the other, and what demand 1 says of it: both against the reference."""
-    told, demanded, cut, nearly_full = [], [], [], []
-    for _ in range(60):
-        events = history(rng, rng.choice((0, 1, 2, 3, 5, 8, 13, 40)))
-        text, due = history_text(events), run_text(run_told(crest.FRESH, events))
-        told.append(Case(f"toldAll {text} fresh", due))
-        demanded.append(Case(f"demanded {text}", due))
-        limit = rng.choice((0, 1, 2, 3, 10))
-        cut.append(Case(f"shownAfter (countedOf {limit} {text})", run_text(run_told(crest.FRESH, events, limit))))
-        left = rng.randint(0, 6)
+    """What calls do to a run, and what demand 1 says that it then shows: both against the reference."""
+    after, bytes_after, demanded, events, cut, nearly_full = [], [], [], [], [], []
+    for _ in range(16):
+        calls = random_calls(rng)
+        text, outcomes = listed(call.text for call in calls), [call.outcome for call in calls]
+        state = run_told(crest.FRESH, outcomes)
+        after.append(Case(f"afterCalls {text} fresh", run_text(state)))
+        bytes_after.append(Case(f"bytesAfterCalls {text} freshBytes", spelt(crest.bytes_of_run(state))))
+        demanded.append(Case(f"demanded {text}", run_text(state)))
+        events += [Case(f"eventOf ({call.text})", event_text(call.outcome)) for call in calls[:2]]
+        left = rng.randint(0, 3)
         state = random_run(rng)._replace(answered=30_000, refused=crest.RUN_LIMIT - 30_000 - left)
-        nearly_full.append(Case(f"toldAll {text} {run_text(state)}", run_text(run_told(state, events))))
-    return told, demanded, cut, nearly_full
+        nearly_full.append(Case(f"afterCalls {text} {run_text(state)}", run_text(run_told(state, outcomes))))
+    for _ in range(80):
+        often, limit = rng.choice((2, 4, 8, 1000)), rng.choice((0, 1, 2, 3, 10, 65_535, 65_535))
+        length = rng.choice((0, 1, 2, 3, 5, 8, 13, 40))
+        outcomes = [None if rng.randrange(often) == 0 else random_answer(rng)[0] for _ in range(length)]
+        asked = f"shownAfter (countedOf {limit} {listed(map(event_text, outcomes))})"
+        cut.append(Case(asked, run_text(run_told(crest.FRESH, outcomes, limit))))
+    return [
+        Table("after-calls", "Run", "afterCalls ofBits", after, 3),
+        Table("bytes-after-calls", "List ℕ", "bytesAfterCalls ofBits", bytes_after, 3),
+        Table("demanded", "Run", "demanded ofBits", demanded, 3),
+        Table("nearly-full", "Run", "afterCalls ofBits", nearly_full, 3),
+        Table("events", "Event", "eventOf ofBits", events, 8),
+        Table("demanded-of-events", "Run", "shownAfter countedOf", cut, 20),
+    ]
 
 
 def run(rng):
-    counted, acknowledged, told, read, written, full = run_record(rng)
-    acknowledgements, read_calls, called = run_calls(rng)
-    from_fresh, demanded, cut, nearly_full = histories(rng)
-    tables = [
-        Table("counted", "Run", "counted", counted),
-        Table("acknowledged", "Run", "acknowledged", acknowledged),
-        Table("full", "Bool", "isFull", full),
-        Table("told", "Run", "toldAll", told),
-        Table("read", "Run", "runAt", read),
-        Table("written", "List ℕ", "runBytes", written),
-        Table("acknowledge-calls", "ℕ × List ℕ", "acknowledgeCall", acknowledgements),
-        Table("reading-calls", "ℕ × List ℕ", "readingCall ofBits", read_calls, 5),
-        Table("call-lists", "List ℕ", "runAfterCalls ofBits", called, 2),
-        Table("told-fresh", "Run", "toldAll", from_fresh, 20),
-        Table("demanded", "Run", "demanded", demanded, 20),
-        Table("demanded-up-to", "Run", "shownAfter countedOf", cut, 20),
-        Table("told-nearly-full", "Run", "toldAll", nearly_full, 20),
-    ]
+    tables = [*run_record(rng), *run_calls(rng), *histories(rng)]
+    calls = "readingCall, acknowledgeCall, checkCall"
     uses = (
         *READING_USES,
-        *TAKEN_USES,
+        *ANSWER_USES,
         "declared.Run.{Run}",
         "lib.Ieee.{ofBits}",
-        "Run.{fresh, isFull, counted, acknowledged, runAt, runBytes, readingCall, acknowledgeCall}",
-        "Histories.{Event, reading, acknowledgement, toldAll, countedOf, shownAfter, demanded}",
-        "Histories.{Call, read, acknowledge, runAfterCalls, freshBytes}",
+        f"Run.{{Shown, Noted, fresh, isFull, shownOf, counted, acknowledged, noted, runAt, runBytes, {calls}}}",
+        "Histories.{Call, read, acknowledge, afterCalls, bytesAfterCalls, freshBytes, demanded}",
+        "Histories.{Event, came, acknowledgement, eventOf, countedOf, shownAfter}",
     )
-    return Chapter(12, "Run", uses, tables)
+    return Chapter(12, "Run", uses, tables, (SHOWN_FORM,))
 
 
 # ---------------------------------------------------------------------------
 # 13 Refusals
 
-# The names of the reasons in the order of document 01's table.
-REASONS = (
-    "byteCount checksum blockField damagedKind laterKind outOfRange notUnit gap kink notWhole outsideFrame tooFar "
-    "beforeStart afterEnd noSuchPlace runFull recordCount tooLittleRoom"
-).split()
+# The names of the reasons, with the words of document 01's table, in its order.
+TABLE = (
+    ("byteCount", "byte count not 512, 1024, 1536 or 2048"),
+    ("checksum", "a block's A or B is wrong"),
+    ("blockField", "block number, use count, edition, or a byte that must be zero outside used records"),
+    ("damagedRecord", "damaged kind, or a nonzero byte 1 to 3 or 28 to 31 of a used record"),
+    ("laterKind", "kind 5 to 15"),
+    ("fieldOutOfRange", "length, radius, x or y out of range"),
+    ("notUnit", "direction not a unit (record or heading)"),
+    ("gap", "gap, kink at a join"),
+    ("kink", "gap, kink at a join"),
+    ("notWhole", "a reading's number not finite or not whole"),
+    ("outsideFrame", "plane point outside the frame, given or resulting"),
+    ("tooFar", "least D above 400,000,000,000,000"),
+    ("beforeStart", "station judged 0 with residual below −100"),
+    ("afterEnd", "station judged T with residual above 100"),
+    ("askedOutOfRange", "station, offset or record number out of range"),
+    ("runFull", "run full"),
+    ("recordCount", "writer's record bytes not 32 times 1 to 60"),
+    ("wrongRoom", "room below the blocks needed, a run's bytes not 24, or a C move's not 8"),
+)
+REASONS = [why for why, _ in TABLE]
 
 
 def refusals(rng):
     numbers = [Case(f"number {why}", str(number)) for number, why in enumerate(REASONS, 1)]
+    sentences = [Case(f"sentence {why}", f'"{words}"') for why, words in TABLE]
     given = []
     for number, why in enumerate(REASONS, 1):
         for place in (0, 1, 59, spread(rng, 2**32)):
@@ -1380,6 +1434,7 @@ def refusals(rng):
             codes.append(Case(f"code (paperOfOutcome {outcome})", str(crest.c_value(number, place))))
     tables = [
         Table("numbers", "ℕ", "number", numbers),
+        Table("sentences", "String", "sentence", sentences),
         Table("given", "Refusal", "refusal", given),
         Table("verdicts", "Outcome", "verdict", verdicts),
         Table("codes", "ℕ", "code paperOfOutcome", codes),
@@ -1387,7 +1442,8 @@ def refusals(rng):
     uses = (
         *OUTCOME_USES,
         "declared.Refusal.{Refusal}",
-        f"Refusals.{{Reason, number, refusal, rule, verdict, {', '.join(REASONS)}}}",
+        "Prim.Native.String.{String}",
+        f"Refusals.{{Reason, number, sentence, refusal, rule, verdict, {', '.join(REASONS)}}}",
         "Answers.{code, paperOfOutcome}",
     )
     return Chapter(13, "Refusals", uses, tables)

@@ -1,12 +1,12 @@
 -- Absolute values: of sums, differences and products; against bounds on both sides; and against squares.
-use mathlib.Core.Path.{_≡_, refl, sym, _∙_, ap, ap₂, subst, subst₂}
+use mathlib.Core.Path.{_≡_, refl, sym, _∙_, ap, subst, subst₂}
 use Prim.Native.Nat.{ℕ, zero, suc, _+_, _*_, _<_, _≤_, _^_}
 use native.Mathlib.Omega.{arith}
 use native.Mathlib.Decide.{decLe}
-use native.Mathlib.Nat.{mul-le-mul, le-trans, le-of-eq, lt-of-le-of-lt, pow-zero, pow-suc}
+use native.Mathlib.Nat.{mul-le-mul, pow-zero, pow-suc}
 use lib.IntN.{ℤ, pos, negsuc, negℤ, natAbs, _+ℤ_, _-ℤ_, _*ℤ_, pow, one}
 use lib.Signed.{_≤ℤ_, _<ℤ_, mag}
-use Rattle.integers.proofs.Order.{order, sum, negation, difference, parts, pos-≤, ≤-pos, pos-<, <-pos}
+use Rattle.integers.proofs.Order.{order, sum, negation, difference, parts, pos-≤, ≤-pos, <-pos}
 
 pub natAbs-neg : (a : ℤ) → natAbs (negℤ a) ≡ natAbs a
 natAbs-neg (pos zero) = refl

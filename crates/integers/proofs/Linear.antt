@@ -1,8 +1,8 @@
 -- All facts that `omega` needs of a term over ℤ, at once: for each sum, difference, negation and multiple by a literal in it the linear fact of `Order`.
 --   omega (order, linear {ρ = a ∷ b ∷ []} {a = t +ℤ u} (search writing depth 20))
 use mathlib.Core.Path.{_≡_}
-use mathlib.Core.List.{List, [], _∷_}
-use Prim.Native.Nat.{ℕ, _+_, _*_}
+use mathlib.Core.List.{List}
+use Prim.Native.Nat.{_+_, _*_}
 use lib.IntN.{ℤ, pos, negsuc, negℤ, _+ℤ_, _-ℤ_, _*ℤ_}
 use Rattle.integers.proofs.Identity.{Expr, var, lit, _⊕_, _⊖_, _⊗_, _↑_, neg, eval}
 use Rattle.integers.proofs.Written.{Written}

@@ -5,12 +5,12 @@
 -- where Γ c lists the arguments, bounds on their absolute values, and why these hold.
 use mathlib.Core.Path.{_≡_, refl, sym, _∙_, ap, ap₂, subst₂, subst}
 use mathlib.Core.Bool.{Bool, true, false, not, _&&_}
-use mathlib.Core.List.{List, [], _∷_}
-use Prim.Native.Nat.{ℕ, _≤_, _<_, _^_}
+use mathlib.Core.List.{List}
+use Prim.Native.Nat.{ℕ, _^_}
 use lib.Dec.{T, ltb}
-use lib.IntN.{ℤ, pos, negsuc, negℤ, natAbs, _+ℤ_, _-ℤ_, _*ℤ_}
+use lib.IntN.{ℤ, pos, negsuc, negℤ, _+ℤ_, _*ℤ_}
 use lib.Signed.{ltZ, leZ, _<ℤ_, _≤ℤ_, ltZ-no, leZ-yes, ltZ-yes}
-use mir.Syntax.{Width, w64}
+use mir.Syntax.{Width}
 use mir.Val.{SFits, hbits, toZ, ofZ}
 use mir.Facts.{toZ-ofZ, and-yes}
 use Rattle.integers.proofs.Identity.{Expr, var, lit, _⊕_, _⊖_, _⊗_, neg, same-value, eval, isZero, norm}

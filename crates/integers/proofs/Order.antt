@@ -1,15 +1,15 @@
 -- The order of ℤ. A whole number a is `posPart a` less `negPart a`, of which one is 0; so a fact of order, a sum, a difference or a multiple over ℤ
 -- is a linear fact over ℕ, which `omega` proves: `omega (order, sum a b)` takes and proves `≤ℤ`, `<ℤ` and `≡` where the sums in sight are listed.
-use mathlib.Core.Path.{_≡_, refl, sym, _∙_, ap, subst, subst₂}
+use mathlib.Core.Path.{_≡_, refl, sym, _∙_, ap, subst}
 use mathlib.Core.Bool.{Bool, true, false, not, cond}
 use Prim.Native.Nat.{ℕ, zero, suc, pred, _+_, _*_, _-_, _<_, _≤_, min, zero-le}
 use native.Mathlib.Omega.{arith}
 use native.Mathlib.Decide.{decLe}
 use mathlib.Core.Logic.{_⊎_, inl, inr}
 use native.Mathlib.Nat.{mul-zero}
-use lib.Dec.{T, leb, ltb, leb→le, le→leb, ltb→lt, lt→ltb, nltb→le}
-use lib.IntN.{ℤ, pos, negsuc, negℤ, natAbs, subℕ, _+ℤ_, _-ℤ_, _*ℤ_, *ℤ-comm}
-use lib.Signed.{_≤ℤ_, _<ℤ_, leZ, ltZ, mag, ltZ-no}
+use lib.Dec.{T, ltb, leb→le, le→leb, ltb→lt, lt→ltb, nltb→le}
+use lib.IntN.{ℤ, pos, negsuc, negℤ, natAbs, subℕ, _+ℤ_, _-ℤ_, _*ℤ_}
+use lib.Signed.{_≤ℤ_, _<ℤ_, leZ, ltZ, mag}
 use Rattle.integers.proofs.Ring.{sub-*ℤ, *ℤ-sub}
 
 abbrev pub posPart : ℤ → ℕ

@@ -1,15 +1,15 @@
 -- The triangle inequality over whole numbers. By Lagrange's identity |g·f|² ≤ |g|² |f|², so where |g| < n and |f| ≤ m,
 -- |g + f|² = |g|² + 2 g·f + |f|² is below n² + 2 n m + m².
-use mathlib.Core.Path.{_≡_, refl, sym, _∙_, ap, ap₂, subst, subst₂}
-use mathlib.Core.List.{List, [], _∷_}
+use mathlib.Core.Path.{_≡_, sym, _∙_, ap₂, subst₂}
+use mathlib.Core.List.{[], _∷_}
 use Prim.Native.Nat.{ℕ, _+_, _*_, _<_, _≤_}
 use native.Mathlib.Omega.{arith}
 use native.Mathlib.Decide.{decLt}
 use native.Mathlib.Nat.{mul-le-mul, le-trans, le-of-eq, le-of-lt}
 use lib.IntN.{ℤ, pos, negℤ, natAbs, _+ℤ_, _-ℤ_, _*ℤ_, -ℤ-+ℤ-cancel}
-use lib.Signed.{_≤ℤ_, _<ℤ_}
+use lib.Signed.{_≤ℤ_}
 use Rattle.integers.specs.Plane.{squared}
-use Rattle.integers.proofs.Order.{order, sum, multiple, parts, ≤ℤ-by, ≤-pos, 0≤-square}
+use Rattle.integers.proofs.Order.{order, parts, ≤ℤ-by, ≤-pos, 0≤-square}
 use Rattle.integers.proofs.Abs.{square-natAbs, square-≤, ≤-square, natAbs-neg}
 use Rattle.integers.proofs.Written.{writing, identity, identityℕ}
 use Rattle.integers.proofs.Linear.{linear}

@@ -6,7 +6,7 @@ use mathlib.Core.List.{List, [], _∷_}
 use Prim.Native.Nat.{ℕ, zero, suc, _+_, _*_, _<_, _≤_, _^_, zero-le}
 use native.Mathlib.Nat.{mul-le-mul, le-trans, le-refl, le-of-eq, lt-of-le-of-lt, add-le-add, pow-zero, pow-suc}
 use lib.Dec.{T, leb, ltb, leb→le, ltb→lt}
-use lib.IntN.{ℤ, pos, negℤ, natAbs, _+ℤ_, _-ℤ_, _*ℤ_, pow}
+use lib.IntN.{ℤ, pos, natAbs}
 use mir.Val.{SFits, hbits}
 use mir.Syntax.{Width}
 use Rattle.integers.proofs.Identity.{Expr, var, lit, _⊕_, _⊖_, _⊗_, _↑_, neg, eval, lookup}

@@ -1,7 +1,7 @@
 -- ℤ is a commutative ring: the laws that the library lacks. Each is by induction up by sucℤ and down by predℤ, or follows from one that is.
-use mathlib.Core.Path.{_≡_, refl, sym, _∙_, ap, ap₂}
-use Prim.Native.Nat.{ℕ, zero, suc}
-use lib.IntN.{ℤ, pos, negsuc, sucℤ, predℤ, negℤ, one, _+ℤ_, _-ℤ_, _*ℤ_, sucℤ-+ℤ, predℤ-+ℤ, +ℤ-idl, +ℤ-idr, +ℤ-assoc, +ℤ-comm, +ℤ-invl, +ℤ-invr, +ℤ-negℤ-cancel, zero-*ℤ, *ℤ-zero, sucℤ-*ℤ, predℤ-*ℤ, *ℤ-comm, *ℤ-one, negℤ-+ℤ, negℤ-negℤ}
+use mathlib.Core.Path.{_≡_, sym, _∙_, ap, ap₂}
+use Prim.Native.Nat.{zero, suc}
+use lib.IntN.{ℤ, pos, negsuc, sucℤ, predℤ, negℤ, one, _+ℤ_, _-ℤ_, _*ℤ_, sucℤ-+ℤ, predℤ-+ℤ, +ℤ-idl, +ℤ-assoc, +ℤ-comm, +ℤ-invl, +ℤ-invr, +ℤ-negℤ-cancel, zero-*ℤ, sucℤ-*ℤ, predℤ-*ℤ, *ℤ-comm, *ℤ-one}
 
 pub ℤ-steps : (P : ℤ → Type 0) → P (pos zero) → ((k : ℤ) → P k → P (sucℤ k)) → ((k : ℤ) → P k → P (predℤ k)) → (k : ℤ) → P k
 ℤ-steps P z s p (pos zero) = z

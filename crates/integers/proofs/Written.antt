@@ -2,12 +2,12 @@
 --   identity {ρ = a ∷ b ∷ []} (search writing depth 20) (search writing depth 20) tt
 -- Whatever is no sum, difference, product, power or literal is listed in ρ, also `pos k` for a natural number k that is no literal.
 use mathlib.Core.Path.{_≡_, refl, sym, _∙_, ap, ap₂}
-use mathlib.Core.List.{List, [], _∷_}
+use mathlib.Core.List.{List, _∷_}
 use Prim.Native.Nat.{ℕ, zero, suc, _+_, _*_, _^_}
 use native.Mathlib.Nat.{pow-zero, pow-suc}
 use lib.Dec.{T, ltb}
 use mathlib.Core.Bool.{Bool}
-use lib.IntN.{ℤ, pos, negsuc, negℤ, natAbs, _+ℤ_, _-ℤ_, _*ℤ_, pow, one}
+use lib.IntN.{ℤ, pos, negsuc, negℤ, natAbs, _+ℤ_, _*ℤ_, pow, one}
 use Rattle.integers.proofs.Ring.{+ℤ-cancel-right}
 use Rattle.integers.proofs.Identity.{Expr, lookup, var, lit, _⊕_, _⊖_, _⊗_, _↑_, neg, eval, isZero, norm, same-value}
 

@@ -1,8 +1,46 @@
--- The fourteen marked examples of document 01, as one statement over the whole table, by computation.
-use mathlib.Core.Path.{_≡_, refl}
-use mathlib.Core.List.{map}
-use Rattle.model.specs.Examples.{answered, examples, asked, due}
+-- The fourteen marked examples of document 01, as one statement over the whole table, by computation. Crest K is accepted and its element read once;
+-- each question is then computed on the element.
+use mathlib.Core.List.{List, [], _∷_, map}
+use mathlib.Core.Path.{_≡_, refl, _∙_, ap, ap₂}
+use lib.IntN.{ℤ, pos, negℤ}
+use Rattle.model.specs.declared.Kind.the-variants.{Line}
+use Rattle.model.specs.declared.Element.{Element}
+use Rattle.model.specs.declared.Point.{Point}
+use Rattle.model.specs.declared.Outcome.the-variants.{Done}
+use Rattle.model.specs.Rounding.{ONE}
+use Rattle.model.specs.Acceptance.{checked, crestElements}
+use Rattle.model.specs.Answers.{paperOfLocated, located, locatedOn}
+use Rattle.model.specs.Examples.{K, point, firstThree, valuesBy, answered, examples, asked, due}
+use Rattle.model.proofs.Answers.{located-accepted}
 
+elementsK : List Element
+elementsK = record { kind = Line; length = 10000; x = pos 0; y = pos 0; c = pos ONE; s = pos 0; radius = pos 0 } ∷ []
+
+acceptedK : checked K ≡ Done
+unfolding checked K
+acceptedK = refl
+
+readK : crestElements K ≡ elementsK
+unfolding crestElements K elementsK
+readK = refl
+
+onK : (p : Point) → located K p ≡ locatedOn elementsK p
+onK p = located-accepted K p acceptedK ∙ ap (λ es. locatedOn es p) readK
+
+-- what examples 1 to 8 ask of a point on K, on K's element
+point-on-K : (f : List ℤ → List ℤ) (p : Point) → valuesBy f (paperOfLocated (located K p)) ≡ valuesBy f (paperOfLocated (locatedOn elementsK p))
+point-on-K f p = ap (λ l. valuesBy f (paperOfLocated l)) (onK p)
+
+-- The fourteen examples, in one statement.
 pub examples-hold : map asked examples ≡ map due examples
-unfolding answered examples
-examples-hold = refl
+unfolding answered examples locatedOn elementsK paperOfLocated
+examples-hold =
+    ap₂ _∷_ (point-on-K firstThree (point (pos 512) (pos 300)))
+    (ap₂ _∷_ (point-on-K firstThree (point (pos 550) (pos 300)))
+    (ap₂ _∷_ (point-on-K firstThree (point (negℤ (pos 100)) (pos 0)))
+    (ap₂ _∷_ (point-on-K firstThree (point (negℤ (pos 101)) (pos 0)))
+    (ap₂ _∷_ (point-on-K firstThree (point (pos 1000100) (pos 0)))
+    (ap₂ _∷_ (point-on-K firstThree (point (pos 1000101) (pos 0)))
+    (ap₂ _∷_ (point-on-K (λ v. []) (point (pos 500000) (pos 20000000)))
+    (ap₂ _∷_ (point-on-K (λ v. []) (point (pos 500000) (pos 20000001)))
+    refl)))))))

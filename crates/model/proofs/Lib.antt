@@ -3,5 +3,6 @@ pub mod Rounding
 pub mod Verdict
 pub mod Accepted
 pub mod Judged
+pub mod Answers
 pub mod Examples
 pub mod WrongPrograms

@@ -1,14 +1,14 @@
 -- near(n, d) is the whole number nearest n/d, a half going up, and the only one; and how far it is from n/d, by which every later bound goes.
-use mathlib.Core.Path.{_≡_, refl, sym, _∙_, ap, subst}
-use mathlib.Core.List.{List, [], _∷_}
+use mathlib.Core.Path.{_≡_, sym, subst}
+use mathlib.Core.List.{[], _∷_}
 use mathlib.Core.Logic.{⊎-elim}
-use Prim.Native.Nat.{ℕ, _+_, _*_, _≤_, _<_}
+use Prim.Native.Nat.{ℕ, _*_, _≤_, _<_}
 use native.Mathlib.Omega.{arith}
-use lib.IntN.{ℤ, pos, negℤ, natAbs, _+ℤ_, _-ℤ_, _*ℤ_}
+use lib.IntN.{ℤ, pos, natAbs, _+ℤ_, _-ℤ_, _*ℤ_}
 use lib.Signed.{_≤ℤ_, _<ℤ_}
 use Rattle.integers.specs.Floor.{floorDiv, IsFloor}
 use Rattle.integers.proofs.Floor.{floor-is, floor-unique, floor-mono}
-use Rattle.integers.proofs.Order.{order, sum, difference, negation, multiple, parts, ≤ℤ-total, ≤ℤ-antisym, ≤ℤ-mul-left, 0≤-pos}
+use Rattle.integers.proofs.Order.{order, sum, difference, multiple, parts, ≤ℤ-total, ≤ℤ-antisym, ≤ℤ-mul-left, 0≤-pos}
 use Rattle.integers.proofs.Written.{writing, identity}
 use Rattle.model.specs.Rounding.{near}
 

@@ -1,5 +1,5 @@
 -- An order of refusals has one outcome: the refusal of the first rule that does not hold, or none where all hold.
-use Prim.Native.Nat.{ℕ, zero, suc, _+_, _≤_, _<_}
+use Prim.Native.Nat.{ℕ}
 use mathlib.Core.Bool.{Bool, true, false}
 use mathlib.Core.List.{List, [], _∷_, _++_}
 use mathlib.Core.Logic.{_⊎_, inl, inr}
@@ -38,6 +38,14 @@ pub all→done : {rs : List Rule} → AllHold rs → verdict rs ≡ Done
 unfolding verdict orRefused
 all→done none = refl
 all→done (more {r} {rs} h a) = ap (λ b. orRefused b (r .why) (r .place) (verdict rs)) h ∙ all→done a
+
+-- rules that all hold leave the outcome to those after them
+pub verdict-after : (rs ss : List Rule) → verdict rs ≡ Done → verdict (rs ++ ss) ≡ verdict ss
+unfolding verdict orRefused
+verdict-after [] ss e = refl
+verdict-after (r ∷ rs) ss e =
+    let s = step (r .holds) (r .why) (r .place) (verdict rs) e in
+    ap (λ b. orRefused b (r .why) (r .place) (verdict (rs ++ ss))) (s .0) ∙ verdict-after rs ss (s .1)
 
 -- The outcome of the first rule that does not hold is its refusal.
 pub first→refused : {rs : List Rule} {r : Rule} → FirstFailing rs r → verdict rs ≡ Refused (refusal (r .why) (r .place))

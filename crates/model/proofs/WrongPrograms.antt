@@ -1,11 +1,10 @@
 -- The programs that document 01 shuts out by name, each refuted by the definitions at a named input, computed.
-use Prim.Native.Nat.{ℕ, _+_}
-use mathlib.Core.Bool.{Bool, true, false}
-use mathlib.Core.List.{List, [], _∷_, _++_}
+use Prim.Native.Nat.{ℕ}
+use mathlib.Core.List.{List, [], _∷_}
 use mathlib.Core.Path.{_≡_, refl, sym, _∙_, ap}
 use native.Mathlib.Omega.{arith}
 use lib.ListN.{length, getD, replicate}
-use lib.IntN.{ℤ, pos, negsuc}
+use lib.IntN.{ℤ, pos}
 use Rattle.model.specs.declared.Kind.the-variants.{Line}
 use Rattle.model.specs.declared.Element.{Element}
 use Rattle.model.specs.declared.Point.{Point}
@@ -14,34 +13,34 @@ use Rattle.model.specs.declared.Outcome.{Outcome}
 use Rattle.model.specs.declared.Outcome.the-variants.{Done, Refused}
 use Rattle.model.specs.declared.Located.{Located}
 use Rattle.model.specs.declared.Located.the-variants.{At, Refused as LocatedRefused}
-use Rattle.model.specs.declared.Taken.{Taken}
-use Rattle.model.specs.declared.Taken.the-variants.{Refused as TakenRefused}
+use Rattle.model.specs.declared.ReadingAnswer.the-variants.{Refused as AnswerRefused}
 use Rattle.model.specs.declared.Run.{Run}
+use Rattle.model.specs.Rounding.{ONE}
 use Rattle.model.specs.Refusals.{refusal, beforeStart}
 use Rattle.model.specs.Acceptance.{checked}
-use Rattle.model.specs.Writer.{fileOf, written}
+use Rattle.model.specs.Writer.{written}
 use Rattle.model.specs.Walk.{firstVisits, visitCount}
 use Rattle.model.specs.Answers.{locatedOn}
-use Rattle.model.specs.Run.{counted, acknowledged}
-use Rattle.model.specs.Examples.{K, atOrigin, point}
+use Rattle.model.specs.Run.{Shown, shownOf, counted, acknowledged}
+use Rattle.model.specs.Examples.{K, oneRecord, point}
 
--- the record of crest K, "one line, L = 10,000, anchor (0, 0), direction (ONE, 0)"
-unfoldable pub recordK : List ℕ
-recordK = 1 ∷ 0 ∷ 0 ∷ 0 ∷ 16 ∷ 39 ∷ 0 ∷ 0 ∷ (replicate 8 0 ++ (0 ∷ 0 ∷ 0 ∷ 64 ∷ replicate 12 0))
+-- an element on the line of crest K
+line : ℕ → Element
+line length = record { kind = Line; length = length; x = pos 0; y = pos 0; c = pos ONE; s = pos 0; radius = pos 0 }
 
 -- a line as K of 10 mm
 unfoldable pub short : List Element
-short = atOrigin Line 10 (pos 0) ∷ []
+unfolding line
+short = line 10 ∷ []
 
 -- ---- "a program that refuses everything (the table's 'exactly when')"
 
 pub refuses-all-files : (f : List ℕ → Outcome) → ((file : List ℕ) → (why : Refusal) × (f file ≡ Refused why)) → ((file : List ℕ) → f file ≡ checked file) → ⊥
-unfolding checked fileOf recordK
+unfolding checked K
 refuses-all-files f refuses meets =
-    let file = fileOf recordK in
-    let r = refuses file in
-    let accepted : checked file ≡ Done = refl in
-    let z : _≡_ {A = ℕ} 0 1 = cc (r .1, meets file, accepted) in
+    let r = refuses K in
+    let accepted : checked K ≡ Done = refl in
+    let z : _≡_ {A = ℕ} 0 1 = cc (r .1, meets K, accepted) in
     omega arith
 
 pub refuses-all-points : (f : Point → Located) → ((p : Point) → (why : Refusal) × (f p ≡ LocatedRefused why)) → ((p : Point) → f p ≡ locatedOn short p) → ⊥
@@ -65,11 +64,12 @@ always-station-0 f zero meets =
 -- ---- "a writer or acknowledgement that does nothing (demand 2, run rule)"
 
 pub writer-does-nothing : (f : List ℕ → List ℕ → List ℕ) → ((records room : List ℕ) → f records room ≡ room) → ((records room : List ℕ) → f records room ≡ written records room) → ⊥
-unfolding written recordK
+unfolding written oneRecord
 writer-does-nothing f nothing meets =
+    let records = oneRecord 1 10000 (pos 0) in
     let room : List ℕ = replicate 512 0 in
-    let first : getD (written recordK room) 0 0 ≡ 1 = refl in
-    let z : _≡_ {A = ℕ} 0 1 = ap (λ l. getD l 0 0) (sym (nothing recordK room) ∙ meets recordK room) ∙ first in
+    let first : getD (written records room) 0 0 ≡ 1 = refl in
+    let z : _≡_ {A = ℕ} 0 1 = ap (λ l. getD l 0 0) (sym (nothing records room) ∙ meets records room) ∙ first in
     omega arith
 
 -- a run whose first refusal, 13, was its second reading
@@ -86,7 +86,8 @@ acknowledgement-does-nothing f nothing meets =
 
 -- the crest of example 14, where both passes together make 5 visits and the first alone 2
 unfoldable pub three : List Element
-three = atOrigin Line 3 (pos 0) ∷ []
+unfolding line
+three = line 3 ∷ []
 
 pub made-up-count : (c : ℕ) → ((p : Point) → c ≡ visitCount three p) → ⊥
 unfolding visitCount three
@@ -101,11 +102,11 @@ first-pass-alone meets = let z : _≡_ {A = ℕ} 2 5 = meets (point (pos 0) (pos
 
 -- ---- "Keeping the previous offset in a refused answer."
 
-pub keeps-the-offset : (f : Taken → Run → Run) → ((t : Taken) (run : Run) → f t run .two ≡ run .two) → ((t : Taken) (run : Run) → f t run ≡ counted t run) → ⊥
-unfolding counted
+pub keeps-the-offset : (f : Shown → Run → Run) → ((o : Shown) (run : Run) → f o run .two ≡ run .two) → ((o : Shown) (run : Run) → f o run ≡ counted o run) → ⊥
+unfolding counted shownOf
 keeps-the-offset f keeps meets =
     let run : Run = record { answered = 1; refused = 0; latest = 0; first = 0; reading = 0; one = pos 5; two = pos 300; three = pos 12 } in
-    let t = TakenRefused (refusal beforeStart 0) in
-    let z : pos 300 ≡ pos 0 = sym (keeps t run) ∙ ap (λ (r : Run). r .two) (meets t run) in
+    let o = shownOf (AnswerRefused (refusal beforeStart 0)) in
+    let z : pos 300 ≡ pos 0 = sym (keeps o run) ∙ ap (λ (r : Run). r .two) (meets o run) in
     let n : _≡_ {A = ℕ} 300 0 = cc in
     omega arith

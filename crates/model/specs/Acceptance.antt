@@ -1,9 +1,9 @@
 -- Document 01, "The crest file" and "Refusal numbers": when a file, and when record bytes, are accepted.
-use Prim.Native.Nat.{ℕ, zero, suc, _+_, _-_, _*_, _/_, _^_}
+use Prim.Native.Nat.{ℕ, zero, suc, _+_, _-_, _*_, _^_}
 use mathlib.Core.Bool.{Bool, true, false, not, cond, _&&_, _||_}
-use mathlib.Core.List.{List, [], _∷_, _++_, map}
+use mathlib.Core.List.{List, [], _∷_, _++_}
 use lib.ListN.{length}
-use lib.Dec.{leb, ltb, eqb}
+use lib.Dec.{leb, eqb}
 use lib.IntN.{ℤ, pos, natAbs, _+ℤ_, _-ℤ_, _*ℤ_}
 use Rattle.model.specs.declared.Kind.{Kind}
 use Rattle.model.specs.declared.Kind.the-variants.{Line, Arc, EntrySpiral, ExitSpiral}
@@ -13,9 +13,8 @@ use Rattle.model.specs.declared.Element.{Element}
 use Rattle.model.specs.declared.Point.{Point}
 use Rattle.model.specs.declared.Outcome.{Outcome}
 use Rattle.model.specs.Kinds.{decide}
-use Rattle.model.specs.Records.{byteAt, u16At, u32At, i32At, part, allZero, sumA, sumB, blockCount, blockOf, usedIn, recordBytes, countOf, recordOf}
-use Rattle.model.specs.Refusals.{Rule, rule, rule₀, verdict, forEach, byteCount, checksum, blockField, damagedKind, laterKind, outOfRange, notUnit, gap, kink}
-use Rattle.model.specs.Rounding.{ONE}
+use Rattle.model.specs.Records.{byteAt, u16At, u32At, i32At, part, allZero, sumA, sumB, recordSize, recordsEnd, perBlock, blockCount, blockOf, usedIn, recordBytes, countOf, recordOf}
+use Rattle.model.specs.Refusals.{Rule, rule, rule₀, verdict, forEach, byteCount, checksum, blockField, damagedRecord, laterKind, fieldOutOfRange, notUnit, gap, kink}
 use Rattle.model.specs.Series.{positionOn, tangentOn}
 
 -- ---- a record as an element
@@ -31,15 +30,15 @@ isLater (Known k) = false
 isLater Later = true
 
 -- the kind that a byte names; a byte that names none is refused before its element is used
-unfoldable pub kindOr : KindByte → Kind
-kindOr Damaged = Line
-kindOr (Known k) = k
-kindOr Later = Line
+unfoldable pub kindIn : KindByte → Kind
+kindIn Damaged = Line
+kindIn (Known k) = k
+kindIn Later = Line
 
 -- "Record: 0 kind; 1 to 3 zero; 4 length L, u32; 8 x; 12 y; 16 c; 20 s; 24 radius R in mm; 28 zero, u32. x, y, c, s and R are i32."
 unfoldable pub elementOf : List ℕ → Element
-unfolding kindOr decide
-elementOf r = record { kind = kindOr (decide (byteAt r 0)); length = u32At r 4; x = i32At r 8; y = i32At r 12; c = i32At r 16; s = i32At r 20; radius = i32At r 24 }
+unfolding kindIn decide
+elementOf r = record { kind = kindIn (decide (byteAt r 0)); length = u32At r 4; x = i32At r 8; y = i32At r 12; c = i32At r 16; s = i32At r 20; radius = i32At r 24 }
 
 -- ---- one record
 
@@ -78,10 +77,10 @@ unfolding isDamaged isLater reservedZero rangesGood isUnit elementOf
 recordRules bytes r =
     let this = recordOf bytes r in
     let e = elementOf this in
-    rule damagedKind r (not (isDamaged (decide (byteAt this 0))))
+    rule damagedRecord r (not (isDamaged (decide (byteAt this 0))))
     ∷ rule laterKind r (not (isLater (decide (byteAt this 0))))
-    ∷ rule damagedKind r (reservedZero this)
-    ∷ rule outOfRange r (rangesGood e)
+    ∷ rule damagedRecord r (reservedZero this)
+    ∷ rule fieldOutOfRange r (rangesGood e)
     ∷ rule notUnit r (isUnit (e .c) (e .s))
     ∷ []
 
@@ -127,7 +126,7 @@ sumsAgree block = eqb (u16At block 508) (sumA block) && eqb (u16At block 510) (s
 
 -- "Every block but the last uses 15 records, the last 1 to 15": of block b of n
 unfoldable pub useFits : ℕ → ℕ → ℕ → Bool
-useFits n b used = cond (eqb (b + 1) n) (leb 1 used && leb used 15) (eqb used 15)
+useFits n b used = cond (eqb (b + 1) n) (leb 1 used && leb used perBlock) (eqb used perBlock)
 
 -- "480: block number, u16, from 0. 482: records in use, u16. 484: edition, u32, is 1. 488 to 507: zero. .. unused records are zero."
 unfoldable pub fieldsFit : ℕ → ℕ → List ℕ → Bool
@@ -137,7 +136,7 @@ fieldsFit n b block =
     && useFits n b (usedIn block)
     && eqb (u32At block 484) 1
     && allZero (part block 488 20)
-    && allZero (part block (32 * usedIn block) (480 - 32 * usedIn block))
+    && allZero (part block (recordSize * usedIn block) (recordsEnd - recordSize * usedIn block))
 
 unfoldable pub sumRules : List ℕ → ℕ → List Rule
 unfolding sumsAgree
@@ -149,14 +148,16 @@ fieldRules file b = rule blockField b (fieldsFit (blockCount file) b (blockOf fi
 
 -- ---- a file
 
--- "Order: .. 1; 2 for all blocks; 3 for all; then record by record .."
+-- "1; 2 for all blocks; 3 for all"
+unfoldable pub blocksRules : List ℕ → List Rule
+unfolding lengthFits forEach sumRules fieldRules
+blocksRules file =
+    rule₀ byteCount (lengthFits (length file)) ∷ (forEach (sumRules file) (blockCount file) 0 ++ forEach (fieldRules file) (blockCount file) 0)
+
+-- "Order: .. 1; 2 for all blocks; 3 for all; then record by record ..; then joins"
 unfoldable pub crestRules : List ℕ → List Rule
-unfolding lengthFits forEach sumRules fieldRules recordsRules recordBytes
-crestRules file =
-    rule₀ byteCount (lengthFits (length file))
-    ∷ (forEach (sumRules file) (blockCount file) 0
-    ++ (forEach (fieldRules file) (blockCount file) 0
-    ++ recordsRules (recordBytes file)))
+unfolding blocksRules recordsRules recordBytes
+crestRules file = blocksRules file ++ recordsRules (recordBytes file)
 
 -- "An alignment is accepted when no refusal of its own bytes applies, here 1 to 9."
 unfoldable pub checked : List ℕ → Outcome

@@ -1,10 +1,10 @@
 -- Document 01, "Station, offset, inverse, stake-out" and "Refusal numbers": what each question is answered, refused ones too.
 use Prim.Native.Nat.{ℕ, _*_, _+_}
-use mathlib.Core.Bool.{Bool, true, false, not, _&&_}
+use mathlib.Core.Bool.{not, _&&_}
 use mathlib.Core.List.{List, [], _∷_, _++_}
 use lib.Dec.{leb, ltb, eqb}
 use lib.IntN.{ℤ, pos, negℤ, natAbs, _+ℤ_, _-ℤ_, _*ℤ_}
-use lib.Signed.{ltZ, nonNeg}
+use lib.Signed.{ltZ}
 use Rattle.model.specs.declared.Element.{Element}
 use Rattle.model.specs.declared.Point.{Point}
 use Rattle.model.specs.declared.Refusal.{Refusal}
@@ -19,50 +19,50 @@ use Rattle.model.specs.declared.Inverse.the-variants.{At as InverseAt, R
 use Rattle.model.specs.declared.Move.{Move}
 use Rattle.model.specs.declared.Move.the-variants.{By, Refused as MoveRefused}
 use Rattle.model.specs.Rounding.{ONE, near}
-use Rattle.model.specs.Records.{part, recordStart, recordBytes, countOf}
-use Rattle.model.specs.Refusals.{Rule, rule₀, verdict, notUnit, outsideFrame, tooFar, beforeStart, afterEnd, noSuchPlace}
+use Rattle.model.specs.Records.{part, recordSize, recordStart, recordBytes, countOf}
+use Rattle.model.specs.Refusals.{Rule, rule₀, verdict, notUnit, outsideFrame, tooFar, beforeStart, afterEnd, askedOutOfRange}
 use Rattle.model.specs.Acceptance.{inFrame, isUnit, crestRules, crestElements}
-use Rattle.model.specs.Stations.{total, positionAt, tangentAt, D}
+use Rattle.model.specs.Stations.{total, isStation, positionAt, tangentAt, D}
 use Rattle.model.specs.Judged.{judged, residualAt, offsetAt, minus}
 use Rattle.model.specs.Walk.{visitCount}
 
 -- ---- the paper's number, place and values of each answer
 
 -- "A refusal returns its number and a place .., all other numbers zero"; an answer has number 0.
-pub record Paper : Type 0 where
+pub record PaperAnswer : Type 0 where
   pub number : ℕ
   pub place : ℕ
   pub values : List ℤ
 
-abbrev pub answer : List ℤ → Paper
+abbrev pub answer : List ℤ → PaperAnswer
 answer values = record { number = 0; place = 0; values = values }
 
-abbrev pub refusedWith : Refusal → List ℤ → Paper
+abbrev pub refusedWith : Refusal → List ℤ → PaperAnswer
 refusedWith r zeros = record { number = r .number; place = r .place; values = zeros }
 
-unfoldable pub paperOfOutcome : Outcome → Paper
+unfoldable pub paperOfOutcome : Outcome → PaperAnswer
 paperOfOutcome Done = answer []
 paperOfOutcome (Refused r) = refusedWith r []
 
-unfoldable pub paperOfPlaced : Placed → Paper
+unfoldable pub paperOfPlaced : Placed → PaperAnswer
 paperOfPlaced (PlacedAt x y tx ty) = answer (x ∷ y ∷ tx ∷ ty ∷ [])
 paperOfPlaced (PlacedRefused r) = refusedWith r (pos 0 ∷ pos 0 ∷ pos 0 ∷ pos 0 ∷ [])
 
 -- "Every answer to a plane point carries it beside station, offset and residual; a refusal gives 0 for it"
-unfoldable pub paperOfLocated : Located → Paper
+unfoldable pub paperOfLocated : Located → PaperAnswer
 paperOfLocated (LocatedAt station offset residual visits) = answer (pos station ∷ offset ∷ residual ∷ pos visits ∷ [])
 paperOfLocated (LocatedRefused r) = refusedWith r (pos 0 ∷ pos 0 ∷ pos 0 ∷ pos 0 ∷ [])
 
-unfoldable pub paperOfInverse : Inverse → Paper
+unfoldable pub paperOfInverse : Inverse → PaperAnswer
 paperOfInverse (InverseAt x y) = answer (x ∷ y ∷ [])
 paperOfInverse (InverseRefused r) = refusedWith r (pos 0 ∷ pos 0 ∷ [])
 
-unfoldable pub paperOfMove : Move → Paper
+unfoldable pub paperOfMove : Move → PaperAnswer
 paperOfMove (By forward left) = answer (forward ∷ left ∷ [])
 paperOfMove (MoveRefused r) = refusedWith r (pos 0 ∷ pos 0 ∷ [])
 
 -- "A C call returns the refusal number plus 256 times its place, or 0"
-unfoldable pub code : Paper → ℕ
+unfoldable pub code : PaperAnswer → ℕ
 code p = p .number + 256 * p .place
 
 -- ---- the reader
@@ -70,16 +70,25 @@ code p = p .number + 256 * p .place
 -- "station, offset or record number out of range", after the crest's own
 unfoldable pub readerOutcome : List ℕ → ℕ → Outcome
 unfolding verdict crestRules recordBytes
-readerOutcome file r = verdict (crestRules file ++ (rule₀ noSuchPlace (ltb r (countOf (recordBytes file))) ∷ []))
+readerOutcome file r = verdict (crestRules file ++ (rule₀ askedOutOfRange (ltb r (countOf (recordBytes file))) ∷ []))
 
--- "The reader hands back a record as that part of the lent bytes, not a copy; a refusal hands back an empty part."
-unfoldable pub partIf : Outcome → List ℕ → ℕ → List ℕ
-partIf Done file r = part file (recordStart r) 32
-partIf (Refused why) file r = []
+-- "The reader hands back a record as that part of the lent bytes, not a copy; a refusal hands back an empty part":
+-- where the part starts in the lent bytes, and its length
+pub record Span : Type 0 where
+  pub start : ℕ
+  pub count : ℕ
+
+unfoldable pub spanIf : Outcome → ℕ → Span
+spanIf Done r = record { start = recordStart r; count = recordSize }
+spanIf (Refused why) r = record { start = 0; count = 0 }
+
+unfoldable pub readerSpan : List ℕ → ℕ → Span
+unfolding spanIf readerOutcome
+readerSpan file r = spanIf (readerOutcome file r) r
 
 unfoldable pub readerPart : List ℕ → ℕ → List ℕ
-unfolding partIf readerOutcome
-readerPart file r = partIf (readerOutcome file r) file r
+unfolding readerSpan
+readerPart file r = let span = readerSpan file r in part file (span .start) (span .count)
 
 -- ---- position and direction at a station
 
@@ -89,9 +98,11 @@ placedIf Done es s = let p = positionAt es s in let t = tangentAt es s in Placed
 placedIf (Refused r) es s = PlacedRefused r
 
 -- "a position at a station isn't tested against the frame"
-unfoldable pub placed : List ℕ → ℕ → Placed
-unfolding placedIf verdict crestRules crestElements total
-placed file s = placedIf (verdict (crestRules file ++ (rule₀ noSuchPlace (leb s (total (crestElements file))) ∷ []))) (crestElements file) s
+unfoldable pub placed : List ℕ → ℤ → Placed
+unfolding placedIf verdict crestRules crestElements isStation
+placed file s =
+    let es = crestElements file in
+    placedIf (verdict (crestRules file ++ (rule₀ askedOutOfRange (isStation es s) ∷ []))) es (natAbs s)
 
 -- ---- station and offset of a point
 
@@ -135,10 +146,10 @@ inverseAt es s w =
 
 -- "|w| ≤ 20,000,000"; stations run from 0 to T. "15; .. 11 for a resulting point": the point is the inverse's.
 unfoldable pub lineRules : List Element → ℤ → ℤ → List Rule
-unfolding total inFrame inverseAt
+unfolding isStation inFrame inverseAt
 lineRules es s w =
     let q = inverseAt es (natAbs s) w in
-    rule₀ noSuchPlace (nonNeg s && leb (natAbs s) (total es) && leb (natAbs w) 20000000)
+    rule₀ askedOutOfRange (isStation es s && leb (natAbs w) 20000000)
     ∷ rule₀ outsideFrame (inFrame (q .x) (q .y))
     ∷ []
 
@@ -172,7 +183,10 @@ moveOf own target c s =
 unfoldable pub moveRules : Point → Point → ℤ → ℤ → List Rule
 unfolding inFrame isUnit
 moveRules own target c s =
-    rule₀ outsideFrame (inFrame (own .x) (own .y) && inFrame (target .x) (target .y)) ∷ rule₀ notUnit (isUnit c s) ∷ []
+    rule₀ outsideFrame (inFrame (own .x) (own .y))
+    ∷ rule₀ outsideFrame (inFrame (target .x) (target .y))
+    ∷ rule₀ notUnit (isUnit c s)
+    ∷ []
 
 unfoldable pub moveIf : Outcome → Point → Point → ℤ → ℤ → Move
 unfolding moveOf

@@ -1,6 +1,6 @@
--- Document 01, "Position on an element", the paragraph "Bound": the three-term sums as fractions, and what it is to lie within 2 grains of one.
-use Prim.Native.Nat.{ℕ, _+_, _*_, _≤_, _^_}
-use lib.IntN.{ℤ, pos, negℤ, natAbs, _+ℤ_, _-ℤ_, _*ℤ_, pow}
+-- Document 01, "Position on an element", from the words "Bound, stated over whole numbers": the three-term sums as fractions, and what it is to lie within 2 grains of one.
+use Prim.Native.Nat.{ℕ, _*_, _≤_, _^_}
+use lib.IntN.{ℤ, pos, negℤ, natAbs, _+ℤ_, _-ℤ_, _*ℤ_, pow, one}
 use Rattle.model.specs.declared.Kind.{Kind}
 use Rattle.model.specs.declared.Kind.the-variants.{Line, Arc, EntrySpiral, ExitSpiral}
 use Rattle.model.specs.declared.Element.{Element}
@@ -20,7 +20,7 @@ Within2 u f = natAbs (pos (f .denominator) *ℤ u -ℤ f .numerator) ≤ 2 * f .
 
 -- 1 − φ²/a + φ⁴/b at φ = m/q: the numerator over a·b·q⁴
 unfoldable pub threeTerms : ℕ → ℕ → ℤ → ℕ → ℤ
-unfolding pow
+unfolding pow one
 threeTerms a b m q = pos (a * b * q ^ 4) -ℤ pos (b * q ^ 2) *ℤ pow m 2 +ℤ pos a *ℤ pow m 4
 
 -- 100z(1 − φ²/a + φ⁴/b)

@@ -3,40 +3,54 @@ use Prim.Native.Nat.{ℕ}
 use mathlib.Core.List.{List, [], _∷_, _++_, map}
 use lib.ListN.{replicate}
 use lib.IntN.{ℤ, pos, negℤ}
-use Rattle.model.specs.declared.Kind.{Kind}
-use Rattle.model.specs.declared.Kind.the-variants.{Line, Arc, EntrySpiral, ExitSpiral}
-use Rattle.model.specs.declared.Element.{Element}
 use Rattle.model.specs.declared.Point.{Point}
 use Rattle.model.specs.Rounding.{ONE}
 use Rattle.model.specs.Refusals.{Reason, refusal, tooFar, beforeStart, afterEnd}
-use Rattle.model.specs.Series.{positionOn}
+use Rattle.model.specs.Records.{u32Bytes}
+use Rattle.model.specs.Acceptance.{crestElements}
+use Rattle.model.specs.Writer.{fileOf}
 use Rattle.model.specs.Walk.{visits}
-use Rattle.model.specs.Answers.{Paper, answer, refusedWith, paperOfLocated, paperOfInverse, paperOfMove, locatedOn, inverseOn, stakeOut}
+use Rattle.model.specs.Answers.{PaperAnswer, answer, refusedWith, paperOfPlaced, paperOfLocated, paperOfInverse, paperOfMove, placed, located, inverse, stakeOut}
+use Rattle.model.specs.Run.{i32Bytes}
 
 abbrev pub point : ℤ → ℤ → Point
 point x y = record { x = x; y = y }
 
--- an element whose anchor is (0, 0) and whose direction is (ONE, 0)
-abbrev pub atOrigin : Kind → ℕ → ℤ → Element
-atOrigin kind length radius = record { kind = kind; length = length; x = pos 0; y = pos 0; c = pos ONE; s = pos 0; radius = radius }
+-- A crest file of one record, whose anchor is (0, 0) and whose direction is (ONE, 0): kind byte, length and radius.
+unfoldable pub oneRecord : ℕ → ℕ → ℤ → List ℕ
+oneRecord kind length radius =
+    (kind ∷ 0 ∷ 0 ∷ 0 ∷ [])
+    ++ (u32Bytes length
+    ++ (i32Bytes (pos 0) ++ (i32Bytes (pos 0) ++ (i32Bytes (pos ONE) ++ (i32Bytes (pos 0) ++ (i32Bytes radius ++ u32Bytes 0))))))
+
+unfoldable pub crest : ℕ → ℕ → ℤ → List ℕ
+unfolding oneRecord fileOf
+crest kind length radius = fileOf (oneRecord kind length radius)
 
 -- "Crest K: one line, L = 10,000, anchor (0, 0), direction (ONE, 0)."
-abbrev pub K : List Element
-K = atOrigin Line 10000 (pos 0) ∷ []
+unfoldable pub K : List ℕ
+unfolding crest
+K = crest 1 10000 (pos 0)
 
+-- A question to a crest file, but the last, which has none.
 pub data Question : Type 0 where
   -- station, offset and residual of a point
-  locate : List Element → Point → Question
+  locate : List ℕ → Point → Question
   -- whether a point is answered: its number alone
-  accept : List Element → Point → Question
+  accept : List ℕ → Point → Question
   -- the stations that the walk visits, and the count that the answer carries
-  walk : List Element → Point → Question
+  walk : List ℕ → Point → Question
   -- the point at a station and an offset
-  invert : List Element → ℤ → ℤ → Question
-  -- the position on an element
-  place : Element → ℕ → Question
+  invert : List ℕ → ℤ → ℤ → Question
+  -- the position at a station
+  place : List ℕ → ℤ → Question
   -- the move from an own point to a target, by a heading
   stake : Point → Point → ℤ → ℤ → Question
+
+abbrev pub firstTwo : List ℤ → List ℤ
+firstTwo [] = []
+firstTwo (a ∷ []) = a ∷ []
+firstTwo (a ∷ b ∷ more) = a ∷ b ∷ []
 
 abbrev pub firstThree : List ℤ → List ℤ
 firstThree [] = []
@@ -50,31 +64,31 @@ afterThree (a ∷ []) = []
 afterThree (a ∷ b ∷ []) = []
 afterThree (a ∷ b ∷ c ∷ more) = more
 
-abbrev pub valuesBy : (List ℤ → List ℤ) → Paper → Paper
+abbrev pub valuesBy : (List ℤ → List ℤ) → PaperAnswer → PaperAnswer
 valuesBy f p = record { number = p .number; place = p .place; values = f (p .values) }
 
-unfoldable pub answered : Question → Paper
-unfolding paperOfLocated locatedOn paperOfInverse inverseOn positionOn paperOfMove stakeOut visits
-answered (locate es p) = valuesBy firstThree (paperOfLocated (locatedOn es p))
-answered (accept es p) = valuesBy (λ v. []) (paperOfLocated (locatedOn es p))
-answered (walk es p) = valuesBy (λ v. map pos (visits es p) ++ afterThree v) (paperOfLocated (locatedOn es p))
-answered (invert es s w) = paperOfInverse (inverseOn es s w)
-answered (place e s) = let p = positionOn e s in answer (p .x ∷ p .y ∷ [])
+unfoldable pub answered : Question → PaperAnswer
+unfolding paperOfLocated located paperOfInverse inverse paperOfPlaced placed paperOfMove stakeOut visits crestElements
+answered (locate file p) = valuesBy firstThree (paperOfLocated (located file p))
+answered (accept file p) = valuesBy (λ v. []) (paperOfLocated (located file p))
+answered (walk file p) = valuesBy (λ v. map pos (visits (crestElements file) p) ++ afterThree v) (paperOfLocated (located file p))
+answered (invert file s w) = paperOfInverse (inverse file s w)
+answered (place file s) = valuesBy firstTwo (paperOfPlaced (placed file s))
 answered (stake own target c s) = paperOfMove (stakeOut own target c s)
 
-abbrev pub refusedBy : Reason → ℕ → Paper
+abbrev pub refusedBy : Reason → ℕ → PaperAnswer
 refusedBy why zeros = refusedWith (refusal why 0) (replicate zeros (pos 0))
 
 pub record Example : Type 0 where
   pub question : Question
-  pub expected : Paper
+  pub expected : PaperAnswer
 
 infix 30 _gives_
-abbrev pub _gives_ : Question → Paper → Example
+abbrev pub _gives_ : Question → PaperAnswer → Example
 q gives e = record { question = q; expected = e }
 
 unfoldable pub examples : List Example
-unfolding refusal
+unfolding refusal K crest
 examples =
     -- 1 and 2, of which the second is a tie with 6
     (locate K (point (pos 512) (pos 300)) gives answer (pos 5 ∷ pos 300 ∷ pos 12 ∷ []))
@@ -91,17 +105,17 @@ examples =
     -- 9
     ∷ (invert K (pos 5) (pos 300) gives answer (pos 500 ∷ pos 300 ∷ []))
     -- 10, 11 and 12
-    ∷ (place (atOrigin Arc 200000 (pos 1000000)) 100000 gives answer (pos 9983342 ∷ pos 499583 ∷ []))
-    ∷ (place (atOrigin EntrySpiral 200000 (pos 1000000)) 200000 gives answer (pos 19980009 ∷ pos 666191 ∷ []))
-    ∷ (place (atOrigin ExitSpiral 200000 (pos 1000000)) 0 gives answer (negℤ (pos 19980009) ∷ pos 666191 ∷ []))
+    ∷ (place (crest 2 200000 (pos 1000000)) (pos 100000) gives answer (pos 9983342 ∷ pos 499583 ∷ []))
+    ∷ (place (crest 3 200000 (pos 1000000)) (pos 200000) gives answer (pos 19980009 ∷ pos 666191 ∷ []))
+    ∷ (place (crest 4 200000 (pos 1000000)) (pos 0) gives answer (negℤ (pos 19980009) ∷ pos 666191 ∷ []))
     -- 13
     ∷ (stake (point (pos 0) (pos 0)) (point (pos 100) (pos 200)) (pos 0) (pos ONE) gives answer (pos 200 ∷ negℤ (pos 100) ∷ []))
     -- 14: "visits 0, 3, then 0, 1, 2; count 5"
-    ∷ (walk (atOrigin Line 3 (pos 0) ∷ []) (point (pos 0) (pos 0)) gives answer (pos 0 ∷ pos 3 ∷ pos 0 ∷ pos 1 ∷ pos 2 ∷ pos 5 ∷ []))
+    ∷ (walk (crest 1 3 (pos 0)) (point (pos 0) (pos 0)) gives answer (pos 0 ∷ pos 3 ∷ pos 0 ∷ pos 1 ∷ pos 2 ∷ pos 5 ∷ []))
     ∷ []
 
-abbrev pub asked : Example → Paper
+abbrev pub asked : Example → PaperAnswer
 asked e = answered (e .question)
 
-abbrev pub due : Example → Paper
+abbrev pub due : Example → PaperAnswer
 due e = e .expected

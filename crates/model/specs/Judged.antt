@@ -1,6 +1,6 @@
 -- Document 01, "Station, offset, inverse, stake-out": the station judged, residual and offset there.
 use Prim.Native.Nat.{ℕ, zero, suc, _≤_, _<_}
-use mathlib.Core.Bool.{Bool, cond}
+use mathlib.Core.Bool.{cond}
 use mathlib.Core.List.{List}
 use lib.Dec.{ltb}
 use lib.IntN.{ℤ, _+ℤ_, _-ℤ_, _*ℤ_}

@@ -1,8 +1,7 @@
 -- Document 01, "The crest file": what the kind byte says.
 use Prim.Native.Nat.{ℕ}
-use mathlib.Core.Bool.{Bool, cond, _||_}
+use mathlib.Core.Bool.{cond, _||_}
 use lib.Dec.{ltb, eqb}
-use Rattle.model.specs.declared.Kind.{Kind}
 use Rattle.model.specs.declared.Kind.the-variants.{Line, Arc, EntrySpiral, ExitSpiral}
 use Rattle.model.specs.declared.KindByte.{KindByte}
 use Rattle.model.specs.declared.KindByte.the-variants.{Damaged, Known, Later}

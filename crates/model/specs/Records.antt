@@ -1,12 +1,33 @@
 -- Document 01, "The crest file": fields, records, blocks and their sums. Bytes are lists of natural numbers.
 use Prim.Native.Nat.{ℕ, zero, suc, _+_, _-_, _*_, _/_, _%_}
-use mathlib.Core.Bool.{Bool, true, false, _&&_}
+use mathlib.Core.Bool.{Bool, true, _&&_}
 use mathlib.Core.List.{List, [], _∷_, _++_}
-use lib.ListN.{length, take, drop, getD, replicate}
+use lib.ListN.{length, take, drop, getD}
 use lib.Dec.{eqb}
 use lib.IntN.{ℤ}
 use mir.Syntax.{w32}
 use mir.Val.{toZ}
+
+-- ---- the layout's numbers
+
+-- "Blocks of 512 bytes"
+abbrev pub blockSize : ℕ
+blockSize = 512
+
+-- "15 records of 32 bytes"
+abbrev pub recordSize : ℕ
+recordSize = 32
+
+abbrev pub perBlock : ℕ
+perBlock = 15
+
+-- "Bytes 0 to 479 hold 15 records"
+abbrev pub recordsEnd : ℕ
+recordsEnd = 480
+
+-- the sums stand last, and sum what is before them
+abbrev pub sumsAt : ℕ
+sumsAt = 508
 
 -- ---- fields: "little-endian"
 
@@ -63,25 +84,25 @@ sumOf (b ∷ l) = b + sumOf l
 -- "the sum of (508 − i) times byte i", for the bytes from i on
 unfoldable pub weightedFrom : ℕ → List ℕ → ℕ
 weightedFrom i [] = 0
-weightedFrom i (b ∷ l) = (508 - i) * b + weightedFrom (i + 1) l
+weightedFrom i (b ∷ l) = (sumsAt - i) * b + weightedFrom (i + 1) l
 
 -- "508: A, u16, the sum of bytes 0 to 507 modulo 65,536."
 unfoldable pub sumA : List ℕ → ℕ
 unfolding sumOf
-sumA block = sumOf (take 508 block) % 65536
+sumA block = sumOf (take sumsAt block) % 65536
 
 -- "510: B, u16, the sum of (508 − i) times byte i, i from 0 to 507, same modulus."
 unfoldable pub sumB : List ℕ → ℕ
 unfolding weightedFrom
-sumB block = weightedFrom 0 (take 508 block) % 65536
+sumB block = weightedFrom 0 (take sumsAt block) % 65536
 
 -- ---- blocks of a file, and the record bytes in them
 
 abbrev pub blockCount : List ℕ → ℕ
-blockCount file = length file / 512
+blockCount file = length file / blockSize
 
 abbrev pub blockOf : List ℕ → ℕ → List ℕ
-blockOf file b = part file (512 * b) 512
+blockOf file b = part file (blockSize * b) blockSize
 
 -- "482: records in use, u16."
 abbrev pub usedIn : List ℕ → ℕ
@@ -90,7 +111,7 @@ usedIn block = u16At block 482
 -- The bytes of all used records, in order: "Bytes 0 to 479 hold 15 records of 32 bytes."
 unfoldable pub usedBytes : ℕ → List ℕ → List ℕ
 usedBytes zero file = []
-usedBytes (suc n) file = take (32 * usedIn file) file ++ usedBytes n (drop 512 file)
+usedBytes (suc n) file = take (recordSize * usedIn file) file ++ usedBytes n (drop blockSize file)
 
 unfoldable pub recordBytes : List ℕ → List ℕ
 unfolding usedBytes
@@ -98,12 +119,12 @@ recordBytes file = usedBytes (blockCount file) file
 
 -- where record r, "counted from 0 over all blocks as every record number is", starts in a file
 abbrev pub recordStart : ℕ → ℕ
-recordStart r = 512 * (r / 15) + 32 * (r % 15)
+recordStart r = blockSize * (r / perBlock) + recordSize * (r % perBlock)
 
 -- ---- records as one list of bytes
 
 abbrev pub countOf : List ℕ → ℕ
-countOf records = length records / 32
+countOf records = length records / recordSize
 
 abbrev pub recordOf : List ℕ → ℕ → List ℕ
-recordOf records r = part records (32 * r) 32
+recordOf records r = part records (recordSize * r) recordSize

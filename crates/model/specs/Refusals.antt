@@ -8,15 +8,15 @@ use Rattle.model.specs.declared.Outcome.{Outcome}
 use Rattle.model.specs.declared.Outcome.the-variants.{Done, Refused}
 
 pub data Reason : Type 0 where
-  byteCount checksum blockField damagedKind laterKind outOfRange notUnit gap kink notWhole outsideFrame tooFar beforeStart afterEnd noSuchPlace runFull recordCount tooLittleRoom : Reason
+  byteCount checksum blockField damagedRecord laterKind fieldOutOfRange notUnit gap kink notWhole outsideFrame tooFar beforeStart afterEnd askedOutOfRange runFull recordCount wrongRoom : Reason
 
 unfoldable pub number : Reason → ℕ
 number byteCount = 1
 number checksum = 2
 number blockField = 3
-number damagedKind = 4
+number damagedRecord = 4
 number laterKind = 5
-number outOfRange = 6
+number fieldOutOfRange = 6
 number notUnit = 7
 number gap = 8
 number kink = 9
@@ -25,31 +25,31 @@ number outsideFrame = 11
 number tooFar = 12
 number beforeStart = 13
 number afterEnd = 14
-number noSuchPlace = 15
+number askedOutOfRange = 15
 number runFull = 16
 number recordCount = 17
-number tooLittleRoom = 18
+number wrongRoom = 18
 
--- "given exactly when"
+-- the table's words, for messages; the conditions themselves are the rules of the chapters
 unfoldable pub sentence : Reason → String
 sentence byteCount = "byte count not 512, 1024, 1536 or 2048"
 sentence checksum = "a block's A or B is wrong"
 sentence blockField = "block number, use count, edition, or a byte that must be zero outside used records"
-sentence damagedKind = "damaged kind, or a nonzero byte 1 to 3 or 28 to 31 of a used record"
+sentence damagedRecord = "damaged kind, or a nonzero byte 1 to 3 or 28 to 31 of a used record"
 sentence laterKind = "kind 5 to 15"
-sentence outOfRange = "length, radius, x or y out of range"
+sentence fieldOutOfRange = "length, radius, x or y out of range"
 sentence notUnit = "direction not a unit (record or heading)"
-sentence gap = "gap at a join"
-sentence kink = "kink at a join"
+sentence gap = "gap, kink at a join"
+sentence kink = "gap, kink at a join"
 sentence notWhole = "a reading's number not finite or not whole"
 sentence outsideFrame = "plane point outside the frame, given or resulting"
 sentence tooFar = "least D above 400,000,000,000,000"
-sentence beforeStart = "station judged 0 with residual below -100"
+sentence beforeStart = "station judged 0 with residual below −100"
 sentence afterEnd = "station judged T with residual above 100"
-sentence noSuchPlace = "station, offset or record number out of range"
+sentence askedOutOfRange = "station, offset or record number out of range"
 sentence runFull = "run full"
 sentence recordCount = "writer's record bytes not 32 times 1 to 60"
-sentence tooLittleRoom = "room below the blocks needed, a run's bytes not 24, or a C move's not 8"
+sentence wrongRoom = "room below the blocks needed, a run's bytes not 24, or a C move's not 8"
 
 -- "A refusal returns its number and a place .. else 0"
 unfoldable pub refusal : Reason → ℕ → Refusal
@@ -69,12 +69,12 @@ rule why place holds = record { why = why; place = place; holds = holds }
 abbrev pub rule₀ : Reason → Bool → Rule
 rule₀ why holds = rule why 0 holds
 
--- "Order: ..": the refusal of the first rule that does not hold, if there is one.
 unfoldable pub orRefused : Bool → Reason → ℕ → Outcome → Outcome
 unfolding refusal
 orRefused true why place o = o
 orRefused false why place o = Refused (refusal why place)
 
+-- "Order: ..": the refusal of the first rule that does not hold, if there is one.
 unfoldable pub verdict : List Rule → Outcome
 unfolding orRefused
 verdict [] = Done

@@ -1,54 +1,66 @@
 -- Document 01, "Station, offset, inverse, stake-out": stations, and what lies at one.
 use Prim.Native.Nat.{ℕ, _+_, _-_}
-use mathlib.Core.Bool.{Bool, true, false}
+use mathlib.Core.Bool.{Bool, true, false, _&&_}
 use mathlib.Core.List.{List, [], _∷_}
-use lib.Dec.{ltb}
-use lib.IntN.{ℤ, pos, _-ℤ_}
+use lib.Dec.{leb, ltb}
+use lib.ListN.{take}
+use lib.IntN.{ℤ, pos, natAbs, _-ℤ_}
+use lib.Signed.{nonNeg}
 use Rattle.integers.specs.Plane.{squared}
 use Rattle.model.specs.declared.Kind.the-variants.{Line}
 use Rattle.model.specs.declared.Element.{Element}
+use Rattle.model.specs.declared.Alignment.{Alignment}
 use Rattle.model.specs.declared.Point.{Point}
 use Rattle.model.specs.Series.{positionOn, tangentOn}
+
+-- the elements of an alignment by value: the first `count`
+unfoldable pub used : Alignment → List Element
+used a = take (a .count) (a .elements)
 
 -- "The alignment's stations run from 0 to T, the sum of lengths."
 unfoldable pub total : List Element → ℕ
 total [] = 0
 total (e ∷ es) = e .length + total es
 
--- an element, and mm from its start
-pub record Spot : Type 0 where
+-- a whole number that is a station, for 15: "station .. out of range"
+unfoldable pub isStation : List Element → ℤ → Bool
+unfolding total
+isStation es s = nonNeg s && leb (natAbs s) (total es)
+
+-- where a station lies: its element, and "s .. the mm from the element's start"
+pub record AtElement : Type 0 where
   pub element : Element
-  pub along : ℕ
+  pub s : ℕ
 
 -- what stands for an element where there is none: no accepted alignment is empty
 abbrev pub noElement : Element
 noElement = record { kind = Line; length = 0; x = pos 0; y = pos 0; c = pos 0; s = pos 0; radius = pos 0 }
 
-unfoldable pub spotIf : Bool → Spot → Spot → Spot
-spotIf true a b = a
-spotIf false a b = b
+unfoldable pub atIf : Bool → AtElement → AtElement → AtElement
+atIf true a b = a
+atIf false a b = b
 
 -- "A station at a join belongs to the later element (source document 000: 0 ≤ l < L); T belongs to the last."
-unfoldable pub spotFrom : Element → List Element → ℕ → Spot
-unfolding spotIf
-spotFrom e [] s = record { element = e; along = s }
-spotFrom e (f ∷ es) s =
-    let later = spotFrom f es (s - e .length) in
-    spotIf (ltb s (e .length)) (record { element = e; along = s }) later
+unfoldable pub atFrom : Element → List Element → ℕ → AtElement
+unfolding atIf
+atFrom e [] s = record { element = e; s = s }
+atFrom e (f ∷ es) s =
+    let later = atFrom f es (s - e .length) in
+    atIf (ltb s (e .length)) (record { element = e; s = s }) later
 
-unfoldable pub spotAt : List Element → ℕ → Spot
-unfolding spotFrom
-spotAt [] s = record { element = noElement; along = s }
-spotAt (e ∷ es) s = spotFrom e es s
+unfoldable pub atStation : List Element → ℕ → AtElement
+unfolding atFrom
+atStation [] s = record { element = noElement; s = s }
+atStation (e ∷ es) s = atFrom e es s
 
 -- "the position (X, Y) at station s"
 unfoldable pub positionAt : List Element → ℕ → Point
-unfolding spotAt positionOn
-positionAt es s = let at = spotAt es s in positionOn (at .element) (at .along)
+unfolding atStation positionOn
+positionAt es s = let at = atStation es s in positionOn (at .element) (at .s)
 
 unfoldable pub tangentAt : List Element → ℕ → Point
-unfolding spotAt tangentOn
-tangentAt es s = let at = spotAt es s in tangentOn (at .element) (at .along)
+unfolding atStation tangentOn
+tangentAt es s = let at = atStation es s in tangentOn (at .element) (at .s)
 
 unfoldable pub distanceSq : Point → Point → ℕ
 unfolding squared

@@ -1,10 +1,10 @@
 -- Document 01, "The walk": the stations that both passes visit, in their order.
-use Prim.Native.Nat.{ℕ, zero, suc, _+_, _-_, _*_, _/_, _%_, _≤_, min}
+use Prim.Native.Nat.{ℕ, zero, suc, _+_, _-_, _/_, _%_, _≤_, min}
 use mathlib.Core.Bool.{Bool, true, false, cond}
 use mathlib.Core.Path.{_≡_}
 use mathlib.Core.List.{List, [], _∷_, _++_}
 use lib.ListN.{length}
-use lib.Dec.{ltb, eqb}
+use lib.Dec.{eqb}
 use Rattle.integers.specs.Root.{root}
 use Rattle.model.specs.declared.Element.{Element}
 use Rattle.model.specs.declared.Point.{Point}
@@ -34,20 +34,20 @@ firstBest d t = bestOf d (d 0) (firstVisits t)
 
 -- "with a and b the whole square roots, rounded down, of D(s) and of the best, the next station is s + 1 if a − b < 31, else s + 1 + (a − b − 31) div 150":
 -- how many stations are left out. The subtraction of natural numbers stops at 0, and so does what is left out where a − b < 31.
-unfoldable pub leftOut : ℕ → ℕ → ℕ
+unfoldable pub skipped : ℕ → ℕ → ℕ
 unfolding root
-leftOut here best = (root here - root best - 31) / 150
+skipped here best = (root here - root best - 31) / 150
 
 -- An element's own stations from s on, n of them, where the best so far is b. "a step beyond an element's last own station goes to the next element's first":
 -- with fewer than j + 1 stations left none is visited. The first argument only bounds the recursion; n is enough.
 unfoldable pub elementVisits : (ℕ → ℕ) → ℕ → ℕ → ℕ → ℕ → List ℕ
-unfolding leftOut
+unfolding skipped
 elementVisits d zero n s b = []
 elementVisits d (suc k) zero s b = []
 elementVisits d (suc k) (suc n) s b =
     -- "at s the best becomes D(s) if that is less"
     let best = min b (d s) in
-    let j = leftOut (d s) best in
+    let j = skipped (d s) best in
     s ∷ elementVisits d k (n - j) (s + 1 + j) best
 
 -- how many stations are an element's own, where es follow it: "T belongs to the last"

@@ -1,21 +1,21 @@
--- Document 01, "The crest file" and "The writer": the one file of record bytes, and what the writer leaves in its room.
+-- Document 01, "The crest file" and "Refusal numbers": the one file of record bytes, and what the writer leaves in its room.
 use Prim.Native.Nat.{ℕ, zero, suc, _+_, _-_, _*_, _/_, _%_}
-use mathlib.Core.Bool.{Bool, true, false, cond, _&&_}
+use mathlib.Core.Bool.{Bool, _&&_}
 use mathlib.Core.List.{List, [], _∷_, _++_}
 use lib.ListN.{length, take, drop, replicate}
 use lib.Dec.{leb, eqb}
 use Rattle.model.specs.declared.Outcome.{Outcome}
 use Rattle.model.specs.declared.Outcome.the-variants.{Done, Refused}
-use Rattle.model.specs.Records.{put, u16Bytes, u32Bytes, sumA, sumB, countOf}
-use Rattle.model.specs.Refusals.{Rule, rule₀, verdict, recordCount, tooLittleRoom}
+use Rattle.model.specs.Records.{blockSize, recordSize, recordsEnd, perBlock, put, u16Bytes, u32Bytes, sumA, sumB, countOf}
+use Rattle.model.specs.Refusals.{Rule, rule₀, verdict, recordCount, wrongRoom}
 use Rattle.model.specs.Acceptance.{recordsRules}
 
 -- ---- the one file
 
--- Bytes 0 to 507 of block b, whose records are the given bytes, 32 · 15 at most: the records, zero up to 480, "480: block number .. 482: records in use .. 484: edition, u32, is 1. 488 to 507: zero."
+-- Bytes 0 to 507 of block b, whose records are the given bytes, 15 at most: the records, zero up to 480, "480: block number .. 482: records in use .. 484: edition, u32, is 1. 488 to 507: zero."
 unfoldable pub blockBody : ℕ → List ℕ → List ℕ
 blockBody b records =
-    records ++ (replicate (480 - length records) 0 ++ (u16Bytes b ++ (u16Bytes (countOf records) ++ (u32Bytes 1 ++ replicate 20 0))))
+    records ++ (replicate (recordsEnd - length records) 0 ++ (u16Bytes b ++ (u16Bytes (countOf records) ++ (u32Bytes 1 ++ replicate 20 0))))
 
 -- "508: A .. 510: B": the body with its two sums
 unfoldable pub withSums : List ℕ → List ℕ
@@ -30,10 +30,10 @@ block b records = withSums (blockBody b records)
 unfoldable pub blocksFrom : ℕ → ℕ → List ℕ → List ℕ
 unfolding block
 blocksFrom zero b records = []
-blocksFrom (suc n) b records = block b (take 480 records) ++ blocksFrom n (b + 1) (drop 480 records)
+blocksFrom (suc n) b records = block b (take recordsEnd records) ++ blocksFrom n (b + 1) (drop recordsEnd records)
 
 abbrev pub blocksNeeded : List ℕ → ℕ
-blocksNeeded records = (countOf records + 14) / 15
+blocksNeeded records = (countOf records + (perBlock - 1)) / perBlock
 
 unfoldable pub fileOf : List ℕ → List ℕ
 unfolding blocksFrom
@@ -43,14 +43,14 @@ fileOf records = blocksFrom (blocksNeeded records) 0 records
 
 -- "writer's record bytes not 32 times 1 to 60"
 unfoldable pub countFits : ℕ → Bool
-countFits n = eqb (n % 32) 0 && leb 1 (n / 32) && leb (n / 32) 60
+countFits n = eqb (n % recordSize) 0 && leb 1 (n / recordSize) && leb (n / recordSize) 60
 
 -- "The writer gives 17, 4 to 9, 18": for room of the given length
 unfoldable pub writerRules : List ℕ → ℕ → List Rule
 unfolding countFits recordsRules
 writerRules records room =
     rule₀ recordCount (countFits (length records))
-    ∷ (recordsRules records ++ (rule₀ tooLittleRoom (leb (512 * blocksNeeded records) room) ∷ []))
+    ∷ (recordsRules records ++ (rule₀ wrongRoom (leb (blockSize * blocksNeeded records) room) ∷ []))
 
 unfoldable pub writerOutcome : List ℕ → ℕ → Outcome
 unfolding verdict writerRules

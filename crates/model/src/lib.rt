@@ -1,5 +1,4 @@
-// The types of the crest library, and the two decisions that the types themselves carry: a kind byte and a fresh run.
-// Every definition of document 01 over them is in specs/.
+// The types of the crest library, and what a kind byte says. Every definition of document 01 over them is in specs/.
 ghost use mathlib.Core.Path.{_≡_};
 ghost use Rattle.model.specs.Kinds.{decide};
 
@@ -104,7 +103,7 @@ pub enum Reading {
 }
 
 // What a reading on a crest comes to.
-pub enum Taken {
+pub enum ReadingAnswer {
     PlanePoint {
         station: u64,
         offset: i64,

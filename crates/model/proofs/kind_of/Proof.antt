@@ -1,11 +1,9 @@
 -- `model::kind_of` meets its contract: each arm of the match is a case of `decide`.
-use mathlib.Core.Path.{_≡_, refl, sym, ap}
-use mathlib.Core.Bool.{Bool, cond, _||_}
+use mathlib.Core.Path.{_≡_, sym, ap}
 use Prim.Native.Nat.{ℕ, _<_, _≤_}
 use native.Mathlib.Omega.{arith}
-use lib.Dec.{ltb, eqb}
-use borrow.Author.Tests.{ne-eqb, eq-eqb, lt-ltb, le-ltb}
-use Rattle.model.specs.declared.KindByte.the-variants.{Damaged, Known, Later}
+use borrow.Author.Tests.{ne-eqb, lt-ltb, le-ltb}
+use Rattle.model.specs.declared.KindByte.the-variants.{Damaged, Later}
 use Rattle.model.specs.Kinds.{decide}
 use Rattle.model.proofs.kind_of.Statement.{statement}
 use Rattle.model.proofs.kind_of.Tie as tie

@@ -71,11 +71,10 @@ rangesGood e = lengthGood (e .length) && radiusGood (e .kind) (e .length) (natAb
 unfoldable pub isUnit : ℤ → ℤ → Bool
 isUnit c s = leb (natAbs (c *ℤ c +ℤ s *ℤ s -ℤ pos (2 ^ 60))) (2 ^ 31)
 
--- "record by record its kind, reserved bytes, 6, 7"
+-- "record by record its kind, reserved bytes, 6, 7": of record r with its bytes
 unfoldable pub recordRules : List ℕ → ℕ → List Rule
-unfolding isDamaged isLater reservedZero rangesGood isUnit elementOf
-recordRules bytes r =
-    let this = recordOf bytes r in
+unfolding isDamaged isLater reservedZero rangesGood isUnit elementOf decide
+recordRules this r =
     let e = elementOf this in
     rule damagedRecord r (not (isDamaged (decide (byteAt this 0))))
     ∷ rule laterKind r (not (isLater (decide (byteAt this 0))))
@@ -101,17 +100,21 @@ unfolding closeBy tangentOn
 continues e f = closeBy 1000000 (tangentOn e (e .length)) (tangentOn f 0)
 
 -- "then joins from the first, 8 before 9", "earlier record for 8, 9"
-unfoldable pub joinRules : List ℕ → ℕ → List Rule
-unfolding elementOf meets continues
-joinRules bytes r =
-    let e = elementOf (recordOf bytes r) in
-    let f = elementOf (recordOf bytes (r + 1)) in
-    rule gap r (meets e f) ∷ rule kink r (continues e f) ∷ []
+unfoldable pub joinRules : Element → Element → ℕ → List Rule
+unfolding meets continues
+joinRules e f r = rule gap r (meets e f) ∷ rule kink r (continues e f) ∷ []
+
+-- the element of record r of record bytes
+unfoldable pub elementAt : List ℕ → ℕ → Element
+unfolding elementOf
+elementAt bytes r = elementOf (recordOf bytes r)
 
 -- 4 to 9 on record bytes
 unfoldable pub recordsRules : List ℕ → List Rule
-unfolding forEach recordRules joinRules
-recordsRules bytes = forEach (recordRules bytes) (countOf bytes) 0 ++ forEach (joinRules bytes) (countOf bytes - 1) 0
+unfolding forEach recordRules joinRules elementAt
+recordsRules bytes =
+    forEach (λ r. recordRules (recordOf bytes r) r) (countOf bytes) 0
+    ++ forEach (λ r. joinRules (elementAt bytes r) (elementAt bytes (r + 1)) r) (countOf bytes - 1) 0
 
 -- ---- blocks
 
@@ -165,9 +168,9 @@ unfolding verdict crestRules
 checked file = verdict (crestRules file)
 
 unfoldable pub elementsFrom : ℕ → ℕ → List ℕ → List Element
-unfolding elementOf
+unfolding elementAt
 elementsFrom zero r bytes = []
-elementsFrom (suc n) r bytes = elementOf (recordOf bytes r) ∷ elementsFrom n (r + 1) bytes
+elementsFrom (suc n) r bytes = elementAt bytes r ∷ elementsFrom n (r + 1) bytes
 
 -- the elements of record bytes, and of a file
 unfoldable pub elementsOf : List ℕ → List Element

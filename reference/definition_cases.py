@@ -510,6 +510,20 @@ DAMAGES = (
 UNIT_LIMITS = random_crests.unit_limit_pairs()
 
 
+def limit_records():
+    """Files of one record, with one of its numbers on a limit or one beyond."""
+    elements = []
+    for kind, least in ((LINE, 0), (ARC, 2), (ENTRY, 1), (EXIT, 1)):
+        base = Element(kind, 1_000, 0, 0, ONE, 0, 5_000_000 if least else 0)
+        elements += [base._replace(length=length) for length in (0, 1, 500_000, 500_001)]
+        sizes = (least * 1_000, least * 1_000 - 1, 10_000_000, 10_000_001) if least else (0, 1)
+        elements += [base._replace(radius=sign * size) for size in sizes for sign in (-1, 1)]
+        for n in (FRAME, FRAME + 1, -FRAME, -FRAME - 1):
+            elements += [base._replace(x=n), base._replace(y=n)]
+        elements += [base._replace(c=sign * c, s=s) for c, s in UNIT_LIMITS for sign in (-1, 1)]
+    return [crest.file_made(crest.record_of(element)) for element in elements]
+
+
 def limit_joins(rng, count):
     """Two lines whose gap and kink lie on their limits, or one beyond."""
     files = []
@@ -546,7 +560,7 @@ def acceptance(rng):
     for count in counts:
         longest = rng.choice((3, 500, 50_000)) if count > 6 else rng.choice((1, 60, 5_000, 500_000))
         accepted.append(crest_file(rng, count, longest=longest))
-    damaged = damaged_files(rng, 16) + limit_joins(rng, 60)
+    damaged = damaged_files(rng, 16) + limit_records() + limit_joins(rng, 60)
     verdicts = [outcome_of(crest.check(file)) for file in damaged]
     for number in range(1, 10):
         given = sum(bool(verdict) and verdict.number == number for verdict in verdicts)
@@ -892,13 +906,22 @@ def points_for(rng, alignment, count):
     return points
 
 
+STRAIGHT = Named("straight", crest.Alignment([Element(LINE, 40, 0, 0, ONE, 0, 0)]))
+# Points beside STRAIGHT on the limits of 11 to 14, or one beyond.
+LIMIT_POINTS = [
+    *((x, sign * y) for x in (0, 1_700, 1_701, 1_750, 4_000) for y in (20_000_000, 20_000_001) for sign in (-1, 1)),
+    *((x, y) for x in (-99, -100, -101, 4_099, 4_100, 4_101) for y in (0, 7, -3_000)),
+    *((x, y) for x in (FRAME, FRAME + 1, -FRAME, -FRAME - 1) for y in (0, FRAME, FRAME + 1)),
+]
+
+
 def judged(rng):
     stations_, residuals, offsets, answers, file_answers = [], [], [], [], []
-    named = named_alignments(rng, [short_wish(rng) for _ in range(50)])
+    named = [STRAIGHT, *named_alignments(rng, [short_wish(rng) for _ in range(45)])]
     seen = set()
     for one in named:
         alignment = one.alignment
-        for p in points_for(rng, alignment, 5):
+        for p in LIMIT_POINTS if one is STRAIGHT else points_for(rng, alignment, 5):
             s = crest.station_judged(alignment, p)
             stations_.append(Case(f"judged {one.name} {point_text(p)}", str(s)))
             at = rng.choice((s, s, random_crests.random_station(rng, alignment)))

@@ -1,5 +1,6 @@
 -- The programs that document 01 shuts out by name, each refuted by the definitions at a named input, computed.
 use Prim.Native.Nat.{ℕ}
+use mathlib.Core.Bool.{false}
 use mathlib.Core.List.{List, [], _∷_}
 use mathlib.Core.Path.{_≡_, refl, sym, _∙_, ap}
 use native.Mathlib.Omega.{arith}
@@ -21,7 +22,7 @@ use Rattle.model.specs.Acceptance.{checked}
 use Rattle.model.specs.Writer.{written}
 use Rattle.model.specs.Walk.{firstVisits, visitCount}
 use Rattle.model.specs.Answers.{locatedOn}
-use Rattle.model.specs.Run.{Shown, shownOf, counted, acknowledged}
+use Rattle.model.specs.Run.{Shown, shownOf, answers, counted, acknowledged}
 use Rattle.model.specs.Examples.{K, oneRecord, point}
 
 -- an element on the line of crest K
@@ -53,12 +54,12 @@ refuses-all-points f refuses meets =
 
 -- ---- "one that always answers station 0 (demand 3)"
 
-pub always-station-0 : (f : Point → Located) → ((p : Point) → (o : ℤ) × (r : ℤ) × (v : ℕ) × (f p ≡ At 0 o r v)) → ((p : Point) → f p ≡ locatedOn short p) → ⊥
+pub always-station-0 : (f : Point → Located) → ((p : Point) (s : ℕ) (o r : ℤ) (v : ℕ) → f p ≡ At s o r v → s ≡ 0) → ((p : Point) → f p ≡ locatedOn short p) → ⊥
 unfolding locatedOn short
 always-station-0 f zero meets =
     let p = point (pos 512) (pos 300) in
     let answered : locatedOn short p ≡ At 5 (pos 300) (pos 12) (visitCount short p) = refl in
-    let z : _≡_ {A = ℕ} 0 5 = cc (zero p .3, meets p, answered) in
+    let z : _≡_ {A = ℕ} 5 0 = zero p 5 (pos 300) (pos 12) (visitCount short p) (meets p ∙ answered) in
     omega arith
 
 -- ---- "a writer or acknowledgement that does nothing (demand 2, run rule)"
@@ -102,11 +103,11 @@ first-pass-alone meets = let z : _≡_ {A = ℕ} 2 5 = meets (point (pos 0) (pos
 
 -- ---- "Keeping the previous offset in a refused answer."
 
-pub keeps-the-offset : (f : Shown → Run → Run) → ((o : Shown) (run : Run) → f o run .two ≡ run .two) → ((o : Shown) (run : Run) → f o run ≡ counted o run) → ⊥
-unfolding counted shownOf
+pub keeps-the-offset : (f : Shown → Run → Run) → ((o : Shown) (run : Run) → answers o ≡ false → f o run .two ≡ run .two) → ((o : Shown) (run : Run) → f o run ≡ counted o run) → ⊥
+unfolding counted shownOf refusal
 keeps-the-offset f keeps meets =
     let run : Run = record { answered = 1; refused = 0; latest = 0; first = 0; reading = 0; one = pos 5; two = pos 300; three = pos 12 } in
     let o = shownOf (AnswerRefused (refusal beforeStart 0)) in
-    let z : pos 300 ≡ pos 0 = sym (keeps o run) ∙ ap (λ (r : Run). r .two) (meets o run) in
+    let z : pos 300 ≡ pos 0 = sym (keeps o run refl) ∙ ap (λ (r : Run). r .two) (meets o run) in
     let n : _≡_ {A = ℕ} 300 0 = cc in
     omega arith

@@ -1,6 +1,6 @@
 -- The triangle inequality over whole numbers. By Lagrange's identity |g·f|² ≤ |g|² |f|², so where |g| < n and |f| ≤ m,
 -- |g + f|² = |g|² + 2 g·f + |f|² is below n² + 2 n m + m².
-use mathlib.Core.Path.{_≡_, sym, _∙_, ap₂, subst₂}
+use mathlib.Core.Path.{_≡_, sym, _∙_, ap, ap₂, subst₂}
 use mathlib.Core.List.{[], _∷_}
 use Prim.Native.Nat.{ℕ, _+_, _*_, _<_, _≤_}
 use native.Mathlib.Omega.{arith}
@@ -21,6 +21,27 @@ squared-is x y = ap₂ _+ℤ_ (sym (square-natAbs x)) (sym (square-natAbs y))
 pub squared-neg : (x y : ℤ) → squared (negℤ x) (negℤ y) ≡ squared x y
 unfolding squared
 squared-neg x y = ap₂ (λ a b. a * a + b * b) (natAbs-neg x) (natAbs-neg y)
+
+pub squared-≤ : (x y : ℤ) {m n : ℕ} → natAbs x ≤ m → natAbs y ≤ n → squared x y ≤ m * m + n * n
+unfolding squared
+squared-≤ x y h k = omega (arith, square-≤ h, square-≤ k)
+
+-- turning by (c, s) multiplies lengths
+pub squared-turned : (c s u v : ℤ) → squared (c *ℤ u -ℤ s *ℤ v) (s *ℤ u +ℤ c *ℤ v) ≡ squared c s * squared u v
+squared-turned c s u v =
+    ap
+    natAbs
+    (squared-is (c *ℤ u -ℤ s *ℤ v) (s *ℤ u +ℤ c *ℤ v)
+    ∙ identity {ρ = c ∷ s ∷ u ∷ v ∷ []} {b = (c *ℤ c +ℤ s *ℤ s) *ℤ (u *ℤ u +ℤ v *ℤ v)} (search writing depth 20) (search writing depth 20) tt
+    ∙ sym (ap₂ _*ℤ_ (squared-is c s) (squared-is u v)))
+
+pub squared-multiple : (k : ℕ) (x y : ℤ) → squared (pos k *ℤ x) (pos k *ℤ y) ≡ k * k * squared x y
+squared-multiple k x y =
+    ap
+    natAbs
+    (squared-is (pos k *ℤ x) (pos k *ℤ y)
+    ∙ identity {ρ = pos k ∷ x ∷ y ∷ []} {b = pos (k * k) *ℤ (x *ℤ x +ℤ y *ℤ y)} (search writing depth 20) (search writing depth 20) tt
+    ∙ ap (λ n. pos (k * k) *ℤ n) (sym (squared-is x y)))
 
 -- |g·f| ≤ n m where |g|² ≤ n² and |f|² ≤ m²
 pub dot-≤ : (gx gy fx fy : ℤ) (n m : ℕ) → squared gx gy ≤ n * n → squared fx fy ≤ m * m → natAbs (gx *ℤ fx +ℤ gy *ℤ fy) ≤ n * m

@@ -61,6 +61,10 @@ module _ (ρ : List ℤ) (β : List ℕ) (w : Within ρ β) where
 pub abs-by : {ρ : List ℤ} (β : List ℕ) (a : ℤ) {K : ℕ} → Within ρ β → (d : Written ρ a) → T (leb (bound β (d .expr)) K) → natAbs a ≤ K
 abs-by {ρ} β a {K} w d t = subst (λ x. natAbs x ≤ K) (d .means) (le-trans (value-within ρ β w (d .expr)) (leb→le (bound β (d .expr)) K t))
 
+-- |a| is at most what the bounds of the variables give for b, where a is b: the same with bounds that are no literals
+pub abs-within : {ρ : List ℤ} (β : List ℕ) (a b : ℤ) {k : ℕ} → a ≡ b → Within ρ β → (d : Written ρ b) → bound β (d .expr) ≡ k → natAbs a ≤ k
+abs-within {ρ} β a b {k} e w d f = le-trans (le-of-eq (ap natAbs (e ∙ sym (d .means)))) (le-trans (value-within ρ β w (d .expr)) (le-of-eq f))
+
 pub fits-below : {w : Width} {a : ℤ} → natAbs a < 2 ^ hbits w → SFits w a
 fits-below {w} {a} h = record { sfits = lt-of-le-of-lt (mag-≤ a) h }
 

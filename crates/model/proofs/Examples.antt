@@ -9,11 +9,12 @@ use Rattle.model.specs.declared.Point.{Point}
 use Rattle.model.specs.declared.Outcome.the-variants.{Done}
 use Rattle.model.specs.Rounding.{ONE}
 use Rattle.model.specs.Acceptance.{checked, crestElements}
+use Rattle.model.specs.Stations.{D}
 use Rattle.model.specs.Answers.{paperOfLocated, located, locatedOn}
 use Rattle.model.specs.Examples.{K, point, firstThree, valuesBy, answered, examples, asked, due}
 use Rattle.model.proofs.Answers.{located-accepted}
 
-elementsK : List Element
+unfoldable pub elementsK : List Element
 elementsK = record { kind = Line; length = 10000; x = pos 0; y = pos 0; c = pos ONE; s = pos 0; radius = pos 0 } ∷ []
 
 acceptedK : checked K ≡ Done
@@ -26,6 +27,11 @@ readK = refl
 
 onK : (p : Point) → located K p ≡ locatedOn elementsK p
 onK p = located-accepted K p acceptedK ∙ ap (λ es. locatedOn es p) readK
+
+-- of example 2: "(tie with 6)"
+pub tie-with-6 : D elementsK (point (pos 550) (pos 300)) 5 ≡ D elementsK (point (pos 550) (pos 300)) 6
+unfolding D elementsK
+tie-with-6 = refl
 
 -- what examples 1 to 8 ask of a point on K, on K's element
 point-on-K : (f : List ℤ → List ℤ) (p : Point) → valuesBy f (paperOfLocated (located K p)) ≡ valuesBy f (paperOfLocated (locatedOn elementsK p))

@@ -50,7 +50,7 @@ least-unique d t a b l m = go (decLe a b) (decLe b a)
     go (no p) (yes q) = absurd (omega (arith, l .first b (omega arith), m .least a (l .within)))
     go (no p) (no q) = omega arith
 
--- "The station judged is the least s with the least D."
+-- "The station judged is the least s with the least D"
 pub judged-least : (es : List Element) (p : Point) → Least (D es p) (total es) (judged es p)
 unfolding judged
 judged-least es p = leastOf-least (D es p) (total es)

@@ -1,7 +1,7 @@
 -- The programs that document 01 shuts out by name, each refuted by the definitions at a named input, computed.
 use Prim.Native.Nat.{ℕ}
 use mathlib.Core.Bool.{false}
-use mathlib.Core.List.{List, [], _∷_}
+use mathlib.Core.List.{List, [], _∷_, map}
 use mathlib.Core.Path.{_≡_, refl, sym, _∙_, ap}
 use native.Mathlib.Omega.{arith}
 use lib.ListN.{length, getD, replicate}
@@ -20,19 +20,17 @@ use Rattle.model.specs.Rounding.{ONE}
 use Rattle.model.specs.Refusals.{refusal, beforeStart}
 use Rattle.model.specs.Acceptance.{checked}
 use Rattle.model.specs.Writer.{written}
+use Rattle.model.specs.Stations.{total, D}
+use Rattle.model.specs.Judged.{judged}
 use Rattle.model.specs.Walk.{firstVisits, visitCount}
-use Rattle.model.specs.Answers.{locatedOn}
-use Rattle.model.specs.Run.{Shown, shownOf, answers, counted, acknowledged}
-use Rattle.model.specs.Examples.{K, oneRecord, point}
-
--- an element on the line of crest K
-line : ℕ → Element
-line length = record { kind = Line; length = length; x = pos 0; y = pos 0; c = pos ONE; s = pos 0; radius = pos 0 }
+use Rattle.model.specs.Answers.{located}
+use Rattle.model.specs.Run.{Shown, shownOf, answers, counted, acknowledged, acknowledgeCall}
+use Rattle.model.specs.Examples.{K, crest, oneRecord, point}
 
 -- a line as K of 10 mm
-unfoldable pub short : List Element
-unfolding line
-short = line 10 ∷ []
+unfoldable pub short : List ℕ
+unfolding crest
+short = crest 1 10 (pos 0)
 
 -- ---- "a program that refuses everything (the table's 'exactly when')"
 
@@ -44,22 +42,28 @@ refuses-all-files f refuses meets =
     let z : _≡_ {A = ℕ} 0 1 = cc (r .1, meets K, accepted) in
     omega arith
 
-pub refuses-all-points : (f : Point → Located) → ((p : Point) → (why : Refusal) × (f p ≡ LocatedRefused why)) → ((p : Point) → f p ≡ locatedOn short p) → ⊥
-unfolding locatedOn short
+-- what a point 5.12 mm along and 3 mm to the left of `short` is answered
+answered : Located
+answered = At 5 (pos 300) (pos 12) 12
+
+short-answered : located short (point (pos 512) (pos 300)) ≡ answered
+unfolding located short answered
+short-answered = refl
+
+pub refuses-all-points : (f : List ℕ → Point → Located) → ((file : List ℕ) (p : Point) → (why : Refusal) × (f file p ≡ LocatedRefused why)) → ((file : List ℕ) (p : Point) → f file p ≡ located file p) → ⊥
+unfolding answered
 refuses-all-points f refuses meets =
     let p = point (pos 512) (pos 300) in
-    let answered : locatedOn short p ≡ At 5 (pos 300) (pos 12) (visitCount short p) = refl in
-    let z : _≡_ {A = ℕ} 0 1 = cc (refuses p .1, meets p, answered) in
+    let z : _≡_ {A = ℕ} 0 1 = cc (refuses short p .1, meets short p, short-answered) in
     omega arith
 
--- ---- "one that always answers station 0 (demand 3)"
+-- ---- "one that always answers station 0 (demand 3)": station 0 wherever it answers
 
-pub always-station-0 : (f : Point → Located) → ((p : Point) (s : ℕ) (o r : ℤ) (v : ℕ) → f p ≡ At s o r v → s ≡ 0) → ((p : Point) → f p ≡ locatedOn short p) → ⊥
-unfolding locatedOn short
+pub always-station-0 : (f : List ℕ → Point → Located) → ((file : List ℕ) (p : Point) (s : ℕ) (o r : ℤ) (v : ℕ) → f file p ≡ At s o r v → s ≡ 0) → ((file : List ℕ) (p : Point) → f file p ≡ located file p) → ⊥
+unfolding answered
 always-station-0 f zero meets =
     let p = point (pos 512) (pos 300) in
-    let answered : locatedOn short p ≡ At 5 (pos 300) (pos 12) (visitCount short p) = refl in
-    let z : _≡_ {A = ℕ} 5 0 = zero p 5 (pos 300) (pos 12) (visitCount short p) (meets p ∙ answered) in
+    let z : _≡_ {A = ℕ} 5 0 = zero short p 5 (pos 300) (pos 12) 12 (meets short p ∙ short-answered) in
     omega arith
 
 -- ---- "a writer or acknowledgement that does nothing (demand 2, run rule)"
@@ -83,23 +87,49 @@ acknowledgement-does-nothing f nothing meets =
     let z : _≡_ {A = ℕ} 13 0 = ap (λ (run : Run). run .first) (sym (nothing pending) ∙ meets pending) in
     omega arith
 
+-- the same on 24 lent bytes, all 1
+pub acknowledge-call-does-nothing : (f : List ℕ → List ℕ) → ((run : List ℕ) → f run ≡ run) → ((run : List ℕ) → f run ≡ acknowledgeCall run .1) → ⊥
+unfolding acknowledgeCall
+acknowledge-call-does-nothing f nothing meets =
+    let run : List ℕ = replicate 24 1 in
+    let z : _≡_ {A = ℕ} 1 0 = ap (λ l. getD l 6 0) (sym (nothing run) ∙ meets run) in
+    omega arith
+
 -- ---- "a walk that does its first pass and makes up the second, or a made-up visit count (the walk's count, demand 3)"
 
--- the crest of example 14, where both passes together make 5 visits and the first alone 2
-unfoldable pub three : List Element
+-- Two crests of 5 mm, whose first passes see the same distances: one line, and three whose middle begins again at the anchor.
+line : ℕ → ℤ → Element
+line length x = record { kind = Line; length = length; x = x; y = pos 0; c = pos ONE; s = pos 0; radius = pos 0 }
+
+unfoldable pub whole : List Element
 unfolding line
-three = line 3 ∷ []
+whole = line 5 (pos 0) ∷ []
 
-pub made-up-count : (c : ℕ) → ((p : Point) → c ≡ visitCount three p) → ⊥
-unfolding visitCount three
-made-up-count c meets =
-    let here : visitCount three (point (pos 0) (pos 0)) ≡ 5 = refl in
-    let between : visitCount three (point (pos 150) (pos 0)) ≡ 6 = refl in
-    omega (arith, meets (point (pos 0) (pos 0)), meets (point (pos 150) (pos 0)), here, between)
+unfoldable pub broken : List Element
+unfolding line
+broken = line 1 (pos 0) ∷ line 3 (pos 0) ∷ line 1 (pos 400) ∷ []
 
-pub first-pass-alone : ((p : Point) → length (firstVisits 3) ≡ visitCount three p) → ⊥
-unfolding visitCount firstVisits three
-first-pass-alone meets = let z : _≡_ {A = ℕ} 2 5 = meets (point (pos 0) (pos 0)) in omega arith
+-- what the first pass sees
+abbrev pub seen : List Element → Point → List ℕ
+seen es p = map (D es p) (firstVisits (total es))
+
+-- No count is made of the length, the point and what the first pass sees.
+pub made-up-count : (f : ℕ → Point → List ℕ → ℕ) → ((es : List Element) (p : Point) → f (total es) p (seen es p) ≡ visitCount es p) → ⊥
+unfolding visitCount whole broken total D firstVisits
+made-up-count f meets =
+    let p = point (pos 0) (pos 0) in
+    let a : f 5 p (0 ∷ 250000 ∷ []) ≡ 6 = meets whole p in
+    let b : f 5 p (0 ∷ 250000 ∷ []) ≡ 7 = meets broken p in
+    omega arith
+
+-- And no station is.
+pub made-up-second-pass : (f : ℕ → Point → List ℕ → ℕ) → ((es : List Element) (p : Point) → f (total es) p (seen es p) ≡ judged es p) → ⊥
+unfolding judged whole broken total D firstVisits
+made-up-second-pass f meets =
+    let p = point (pos 250) (pos 300) in
+    let a : f 5 p (152500 ∷ 152500 ∷ []) ≡ 2 = meets whole p in
+    let b : f 5 p (152500 ∷ 152500 ∷ []) ≡ 3 = meets broken p in
+    omega arith
 
 -- ---- "Keeping the previous offset in a refused answer."
 

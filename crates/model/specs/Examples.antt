@@ -16,7 +16,7 @@ use Rattle.model.specs.Run.{i32Bytes}
 abbrev pub point : ℤ → ℤ → Point
 point x y = record { x = x; y = y }
 
--- A crest file of one record, whose anchor is (0, 0) and whose direction is (ONE, 0): kind byte, length and radius.
+-- The bytes of a record whose anchor is (0, 0) and whose direction is (ONE, 0): kind byte, length and radius; and the crest file of it alone.
 unfoldable pub oneRecord : ℕ → ℕ → ℤ → List ℕ
 oneRecord kind length radius =
     (kind ∷ 0 ∷ 0 ∷ 0 ∷ [])

@@ -1,0 +1,45 @@
+-- `element_vectors::all_blocks` meets its contract: the count of turns falls.
+use native.Mathlib.Omega.{arith}
+use Rattle.element_vectors.proofs.all_blocks.Statement.{statement}
+use Rattle.element_vectors.proofs.all_blocks.Tie as tie
+
+abbrev Inv-loop : tie.InvT-loop
+Inv-loop t₀ turns₀ t turns = Unit {0}
+
+abbrev μ-loop : tie.MeasureT-loop
+μ-loop t₀ turns₀ t turns = turns
+
+loop-holds : tie.Need-loop-holds Inv-loop μ-loop
+loop-holds c = tt
+
+next-block-requires : tie.Need-next-block-requires Inv-loop μ-loop
+next-block-requires c κs = tt
+
+sub-turns : tie.Need-sub-turns Inv-loop μ-loop
+sub-turns c = omega arith
+
+loop-less : tie.Need-loop-less Inv-loop μ-loop
+loop-less c = omega arith
+
+loop-again : tie.Need-loop-again Inv-loop μ-loop
+loop-again c = tt
+
+returns : tie.Need-returns Inv-loop μ-loop
+returns c = tt
+
+returns-2 : tie.Need-returns-2 Inv-loop μ-loop
+returns-2 c = tt
+
+pub all-blocks-spec : {M : Type 1} → statement M
+all-blocks-spec =
+    tie.close
+    (tie.spec
+    Inv-loop
+    μ-loop
+    loop-holds
+    next-block-requires
+    sub-turns
+    loop-less
+    loop-again
+    returns
+    returns-2)

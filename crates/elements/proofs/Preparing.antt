@@ -1,0 +1,231 @@
+-- Preparing changes no number: the prepared divisor, half and sign give the angle of the definitions, and the series at it u and v.
+use mathlib.Core.Path.{_≡_, refl, sym, _∙_, ap, ap₂, subst}
+use Prim.Native.Nat.{ℕ, _+_, _-_, _*_, _/_, _^_, _<_, _≤_}
+use native.Mathlib.Omega.{arith}
+use native.Mathlib.Nat.{mul-assoc, mul-le-mul, div-add-mod, mod-lt}
+use lib.IntN.{ℤ, pos, natAbs}
+use Rattle.model.specs.declared.Kind.{Kind}
+use Rattle.model.specs.declared.Kind.the-variants.{Line, Arc, EntrySpiral, ExitSpiral}
+use Rattle.model.specs.declared.Element.{Element}
+use Rattle.model.specs.Rounding.{ONE, near}
+use Rattle.model.specs.Series.{Series, arcSeries, spiralSeries, Local, seriesAlong, seriesAside, signedBy, angleOf, localOf, fromAnchor, lengthAt, angleAt, localAt}
+use Rattle.model.specs.Accepted.{Accepted, RadiusFits}
+use Rattle.elements.specs.declared.Prepared.{Prepared}
+use Rattle.elements.specs.Signs.{withSign, signOf}
+use Rattle.elements.specs.Prepared.{divisorOf, backward, preparedOf, Ready}
+use Rattle.elements.specs.Reached.{Curved, SeriesAt, Reached}
+use Rattle.elements.specs.declared.series.Reach.{Reach}
+use Rattle.elements.proofs.Signed.{signed-by, sign-small, sign-zero}
+use Rattle.elements.proofs.Extent.{magnitude-at-most, angle-within, spiral-angle-within}
+use Rattle.elements.proofs.Steps.{near-magnitude, near-even}
+
+pub ready : {e : Element} → Accepted e → Ready (preparedOf e)
+unfolding preparedOf
+ready a = record { accepted = a; prepared = refl }
+
+-- ---- what a kind says
+
+pub radius-on : {e : Element} (k : Kind) → e .kind ≡ k → Accepted e → RadiusFits k (e .length) (natAbs (e .radius))
+radius-on {e} k h a = subst (λ x. RadiusFits x (e .length) (natAbs (e .radius))) h (a .radius)
+
+pub angle-on : (e : Element) (k : Kind) → e .kind ≡ k → (s : ℕ) → angleOf k (e .radius) (e .length) (fromAnchor k (e .length) s) ≡ angleAt e s
+unfolding angleAt lengthAt
+angle-on e k h s = sym (ap (λ x. angleOf x (e .radius) (e .length) (fromAnchor x (e .length) s)) h)
+
+pub local-on : (e : Element) (k : Kind) → e .kind ≡ k → (s : ℕ) → localOf k (fromAnchor k (e .length) s) (angleAt e s) ≡ localAt e s
+unfolding localAt lengthAt
+local-on e k h s = sym (ap (λ x. localOf x (fromAnchor x (e .length) s) (angleAt e s)) h)
+
+pub radius-within : (k : Kind) (length : ℕ) {radius : ℕ} → RadiusFits k length radius → radius ≤ 10000000
+unfolding RadiusFits
+radius-within Line length r = omega arith
+radius-within Arc length r = r .1
+radius-within EntrySpiral length r = r .1
+radius-within ExitSpiral length r = r .1
+
+-- the sign is taken from half the divisor
+pub sign-fits : (k : Kind) {sign length radius : ℕ} → RadiusFits k length radius → sign ≤ radius → 1 ≤ length → sign ≤ divisorOf k radius length / 2
+unfolding RadiusFits divisorOf
+sign-fits Line r s h = omega arith
+sign-fits Arc r s h = omega arith
+sign-fits EntrySpiral {length = l} {radius} r s h = omega (arith, mul-assoc 2 radius l, mul-le-mul {n₁ = radius} {m₁ = 1} {n₂ = radius} {m₂ = l} (omega arith) h)
+sign-fits ExitSpiral {length = l} {radius} r s h = omega (arith, mul-assoc 2 radius l, mul-le-mul {n₁ = radius} {m₁ = 1} {n₂ = radius} {m₂ = l} (omega arith) h)
+
+-- k is a curve with the series K: u and v at l mm, and the sign of u
+pub record CurveOf (k : Kind) (K : Series) : Type 0 where
+  pub along : (l : ℕ) (t : ℤ) → withSign (backward k) (seriesAlong K l t) ≡ localOf k l t .along
+  pub aside : (l : ℕ) (t : ℤ) → seriesAside K l t ≡ localOf k l t .aside
+
+pub arc-curve : CurveOf Arc arcSeries
+unfolding localOf backward withSign
+arc-curve = record { along = λ l t. refl; aside = λ l t. refl }
+
+pub entry-curve : CurveOf EntrySpiral spiralSeries
+unfolding localOf backward withSign
+entry-curve = record { along = λ l t. refl; aside = λ l t. refl }
+
+pub exit-curve : CurveOf ExitSpiral spiralSeries
+unfolding localOf backward withSign
+exit-curve = record { along = λ l t. refl; aside = λ l t. refl }
+
+-- ---- the angle
+
+-- on an arc of radius r, n over r, in halves
+arc-quotient : (sign n r : ℕ) → sign ≤ 1 → 0 < r → withSign sign (pos ((2 * n + (r - sign)) / (2 * r))) ≡ near (withSign sign (pos n)) r
+arc-quotient sign n r s h =
+    let m = 2 * n + (r - sign) in
+    let q = m / (2 * r) in
+    let e = div-add-mod m (2 * r) in
+    let l = mod-lt m {m = 2 * r} (omega arith) in
+    near-magnitude sign n r q s h (omega (arith, mul-assoc 2 r q)) (omega (arith, mul-assoc 2 r q))
+
+module _ (p : Prepared) (y : Ready p) where
+  abbrev e : Element
+  e = p .element
+
+  abbrev radius : ℕ
+  radius = natAbs (e .radius)
+
+  pub negative-is : p .negative ≡ signOf (e .radius)
+  unfolding preparedOf
+  negative-is = ap (λ (x : Prepared). x .negative) (y .prepared)
+
+  pub sign-at-most : p .negative ≤ 1
+  sign-at-most = omega (arith, negative-is, sign-small (e .radius))
+
+  divisor-is : (k : Kind) → e .kind ≡ k → p .divisor ≡ divisorOf k radius (e .length)
+  unfolding preparedOf
+  divisor-is k h = ap (λ (x : Prepared). x .divisor) (y .prepared) ∙ ap (λ x. divisorOf x radius (e .length)) h
+
+  half-is : p .half ≡ p .divisor / 2 - p .negative
+  unfolding preparedOf
+  half-is =
+      ap (λ (x : Prepared). x .half) (y .prepared)
+      ∙ ap₂ (λ (d n : ℕ). d / 2 - n) (sym (ap (λ (x : Prepared). x .divisor) (y .prepared))) (sym negative-is)
+
+  signed : (n : ℕ) → signedBy (e .radius) n ≡ withSign (p .negative) (pos n)
+  signed n = signed-by (e .radius) n ∙ ap (λ (x : ℕ). withSign x (pos n)) (sym negative-is)
+
+  module _ (s : ℕ) (h : s ≤ e .length) (k : e .kind ≡ Arc) where
+    abbrev arcAngle : ℕ
+    arcAngle = (2 * (ONE * s) + p .half) / p .divisor
+
+    arc-divisor : p .divisor ≡ 2 * radius
+    unfolding divisorOf
+    arc-divisor = divisor-is Arc k
+
+    arc-radius : (2 * e .length ≤ radius) × (radius ≤ 10000000)
+    unfolding RadiusFits
+    arc-radius = radius-on Arc k (y .accepted)
+
+    arc-half : p .half ≡ radius - p .negative
+    arc-half = omega (arith, half-is, arc-divisor)
+
+    pub arc-asks : (s ≤ 500000) × (p .half ≤ 10000000) × (1 ≤ p .divisor)
+    arc-asks = omega (arith, y .accepted .longest, y .accepted .shortest, arc-half, arc-divisor, arc-radius)
+
+    arc-near : withSign (p .negative) (pos arcAngle) ≡ near (withSign (p .negative) (pos (ONE * s))) radius
+    arc-near =
+        ap₂ (λ (a d : ℕ). withSign (p .negative) (pos ((2 * (ONE * s) + a) / d))) arc-half arc-divisor
+        ∙ arc-quotient (p .negative) (ONE * s) radius sign-at-most (omega (arith, y .accepted .shortest, arc-radius))
+
+    pub arc-angle-is : withSign (p .negative) (pos arcAngle) ≡ angleAt e s
+    unfolding angleOf fromAnchor
+    arc-angle-is = arc-near ∙ ap (λ (z : ℤ). near z radius) (sym (signed (ONE * s))) ∙ angle-on e Arc k s
+
+    pub arc-curved : Curved s arcAngle (p .negative)
+    arc-curved =
+        record {
+          longest = arc-asks .0;
+          widest = magnitude-at-most (p .negative) arcAngle arc-angle-is (angle-within (y .accepted) h);
+          sign = sign-at-most;
+        }
+
+  -- what the two kinds of spiral share
+  pub record OnSpiral : Type 0 where
+    pub divisor : p .divisor ≡ 2 * radius * e .length
+    pub tightest : e .length ≤ radius
+    pub widest : radius ≤ 10000000
+
+  pub on-entry : e .kind ≡ EntrySpiral → OnSpiral
+  unfolding divisorOf RadiusFits
+  on-entry k = let r = radius-on EntrySpiral k (y .accepted) in record { divisor = divisor-is EntrySpiral k; tightest = r .0; widest = r .1 }
+
+  pub on-exit : e .kind ≡ ExitSpiral → OnSpiral
+  unfolding divisorOf RadiusFits
+  on-exit k = let r = radius-on ExitSpiral k (y .accepted) in record { divisor = divisor-is ExitSpiral k; tightest = r .0; widest = r .1 }
+
+  -- at l mm from the straight end
+  module _ (o : OnSpiral) (l : ℕ) (h : l ≤ e .length) where
+    abbrev spiralAngle : ℕ
+    spiralAngle = (ONE * (l * l) + p .half) / p .divisor
+
+    spiral-square : l * l ≤ radius * e .length
+    spiral-square = mul-le-mul {n₁ = l} {m₁ = l} {n₂ = radius} {m₂ = e .length} (omega (arith, o .tightest)) h
+
+    spiral-product : radius * e .length ≤ 10000000 * 500000
+    spiral-product = mul-le-mul {n₁ = radius} {m₁ = e .length} {n₂ = 10000000} {m₂ = 500000} (o .widest) (y .accepted .longest)
+
+    spiral-positive : 1 * 1 ≤ radius * e .length
+    spiral-positive = mul-le-mul {n₁ = 1} {m₁ = 1} {n₂ = radius} {m₂ = e .length} (omega (arith, o .tightest, y .accepted .shortest)) (y .accepted .shortest)
+
+    twice : p .divisor ≡ 2 * (radius * e .length)
+    twice = o .divisor ∙ mul-assoc 2 radius (e .length)
+
+    pub spiral-asks : (l ≤ 500000) × (p .half < 2 ^ 44) × (1 ≤ p .divisor) × (p .divisor < 2 ^ 44) × (l * l ≤ p .divisor)
+    spiral-asks = omega (arith, y .accepted .longest, half-is, twice, spiral-square, spiral-product, spiral-positive)
+
+    spiral-near : withSign (p .negative) (pos spiralAngle) ≡ near (withSign (p .negative) (pos (ONE * (l * l)))) (p .divisor)
+    spiral-near =
+        ap (λ (x : ℕ). withSign (p .negative) (pos (x / p .divisor))) (omega (arith, half-is, sign-at-most, twice, spiral-positive))
+        ∙ near-even (p .negative) (ONE * (l * l)) (p .divisor) sign-at-most (omega (arith, twice, spiral-positive)) (omega (arith, twice))
+
+    spiral-angle-near : withSign (p .negative) (pos spiralAngle) ≡ near (signedBy (e .radius) (ONE * (l * l))) (2 * radius * e .length)
+    spiral-angle-near = spiral-near ∙ ap₂ (λ (z : ℤ) (x : ℕ). near z x) (sym (signed (ONE * (l * l)))) (o .divisor)
+
+    pub spiral-curved : Curved l spiralAngle (p .negative)
+    spiral-curved =
+        record {
+          longest = spiral-asks .0;
+          widest =
+              magnitude-at-most (p .negative) spiralAngle spiral-angle-near
+              (spiral-angle-within (e .radius) (e .length) l (y .accepted .shortest) h (o .tightest));
+          sign = sign-at-most;
+        }
+
+  pub entry-angle-is : (k : e .kind ≡ EntrySpiral) (s : ℕ) (h : s ≤ e .length) → withSign (p .negative) (pos (spiralAngle (on-entry k) s h)) ≡ angleAt e s
+  unfolding angleOf fromAnchor
+  entry-angle-is k s h = spiral-angle-near (on-entry k) s h ∙ angle-on e EntrySpiral k s
+
+  pub exit-angle-is : (k : e .kind ≡ ExitSpiral) (s : ℕ) (h : e .length - s ≤ e .length) → withSign (p .negative) (pos (spiralAngle (on-exit k) (e .length - s) h)) ≡ angleAt e s
+  unfolding angleOf fromAnchor
+  exit-angle-is k s h = spiral-angle-near (on-exit k) (e .length - s) h ∙ angle-on e ExitSpiral k s
+
+  -- ---- u and v
+
+  pub reached : {k : Kind} {K : Series} (s l angle : ℕ) {r : Reach} → CurveOf k K → e .kind ≡ k → fromAnchor k (e .length) s ≡ l → withSign (p .negative) (pos angle) ≡ angleAt e s → SeriesAt K l angle (p .negative) r → Reached e s r
+  reached {k} {K} s l angle {r} curve h f t a =
+      let local : localOf k l (angleAt e s) ≡ localAt e s = ap (λ (x : ℕ). localOf k x (angleAt e s)) (sym f) ∙ local-on e k h s in
+      record {
+        turned = ap₂ (λ (x y : ℕ). withSign x (pos y)) (sym negative-is) (a .turned) ∙ t;
+        along =
+            ap₂ (λ (x : Kind) (z : ℤ). withSign (backward x) z) h (a .along ∙ ap (seriesAlong K l) t)
+            ∙ curve .along l (angleAt e s)
+            ∙ ap (λ (x : Local). x .along) local;
+        aside =
+            ap (λ (x : ℕ). withSign x (pos (r .aside))) (sym negative-is)
+            ∙ a .aside
+            ∙ ap (seriesAside K l) t
+            ∙ curve .aside l (angleAt e s)
+            ∙ ap (λ (x : Local). x .aside) local;
+      }
+
+  pub reached-line : (s : ℕ) → e .kind ≡ Line → Reached e s (record { angle = 0; along = 100 * s; aside = 0 })
+  unfolding localOf angleOf fromAnchor backward withSign
+  reached-line s h =
+      let local = local-on e Line h s in
+      record {
+        turned = sign-zero (signOf (e .radius)) ∙ angle-on e Line h s;
+        along = ap (λ (x : Kind). withSign (backward x) (pos (100 * s))) h ∙ ap (λ (x : Local). x .along) local;
+        aside = sign-zero (signOf (e .radius)) ∙ ap (λ (x : Local). x .aside) local;
+      }

@@ -1,0 +1,77 @@
+-- `elements::series::factor_of` meets its contract: neither quotient exceeds ONE, so neither difference is negative.
+use Prim.Native.Nat.{_-_, _*_, _≤_}
+use native.Mathlib.Omega.{arith}
+use native.Mathlib.Nat.{mul-le-mul}
+use borrow.Author.Needs.{needs}
+use Rattle.model.specs.Rounding.{ONE}
+use Rattle.model.specs.Series.{factor}
+use Rattle.elements.specs.Signs.{withSign}
+use Rattle.elements.proofs.Extent.{near-at-most}
+use Rattle.elements.proofs.Steps.{factor-step}
+use Rattle.elements.proofs.series.factor_of.Statement.{statement}
+use Rattle.elements.proofs.series.factor_of.Tie as tie
+
+module _ (c : tie.Start) where
+  inner-product : c .args .b * c .args .square ≤ c .args .d * ONE
+  inner-product = mul-le-mul (c .pre .ratio) (c .pre .small)
+
+  inner-small : c .args .d * ONE ≤ 220 * ONE
+  inner-small = omega arith
+
+module _ (c : tie.After-near-even) where
+  quotient-small : c .near-even .result ≤ ONE
+  quotient-small =
+      let s = c .before in
+      near-at-most 0 (s .args .b * s .args .square) (s .args .d) (c .near-even .result) ONE (omega arith) (c .near-even .ensures) (inner-product s)
+
+  outer-product : c .before .args .square * (ONE - c .near-even .result) ≤ ONE * ONE
+  outer-product = mul-le-mul {n₁ = c .before .args .square} {m₁ = ONE - c .near-even .result} {n₂ = ONE} {m₂ = ONE} (c .before .pre .small) (omega arith)
+
+outer-small : (c : tie.After-near-even2) → c .near-even2 .result ≤ ONE
+outer-small c =
+    let s = c .before .before in
+    near-at-most 0 (s .args .square * (ONE - c .before .near-even .result)) (s .args .a * ONE) (c .near-even2 .result) ONE (omega arith) (c .near-even2 .ensures)
+    (omega (arith, outer-product (c .before)))
+
+mul-near-even : tie.Need-mul-near-even
+mul-near-even c = omega (arith, inner-product c)
+
+near-even-requires : tie.Need-near-even-requires
+near-even-requires c κs = omega (arith, inner-product c)
+
+sub-inner : tie.Need-sub-inner
+sub-inner c = quotient-small c
+
+mul-near-even-2 : tie.Need-mul-near-even-2
+mul-near-even-2 c = omega (arith, outer-product c)
+
+mul-near-even-3 : tie.Need-mul-near-even-3
+mul-near-even-3 c = search needs
+
+near-even-requires-2 : tie.Need-near-even-requires-2
+near-even-requires-2 c κs = omega (arith, outer-product c)
+
+sub-result : tie.Need-sub-result
+sub-result c = outer-small c
+
+returns : tie.Need-returns
+unfolding withSign
+returns c =
+    let s = c .before .before in (
+      factor-step (factor (s .args .a) (s .args .b) (s .args .d)) (s .args .square) (c .before .near-even .result) (c .near-even2 .result)
+          (quotient-small (c .before)) (outer-small c) (c .before .near-even .ensures) (c .near-even2 .ensures),
+      omega arith,
+    )
+
+pub factor-of-spec : {M : Type 1} → statement M
+factor-of-spec =
+    tie.close
+    (tie.spec
+    mul-near-even
+    near-even-requires
+    sub-inner
+    mul-near-even-2
+    mul-near-even-3
+    near-even-requires-2
+    sub-result
+    returns)

@@ -1,0 +1,44 @@
+-- `elements::series::spiral` meets its contract.
+use mathlib.Core.Path.{refl}
+use native.Mathlib.Omega.{arith}
+use borrow.Author.Needs.{needs}
+use Rattle.model.specs.Series.{spiralSeries}
+use Rattle.elements.proofs.Steps.{series-at}
+use Rattle.elements.proofs.series.spiral.Statement.{statement}
+use Rattle.elements.proofs.series.spiral.Tie as tie
+
+square-of-requires : tie.Need-square-of-requires
+square-of-requires c κs = search needs
+
+factor-of-requires : tie.Need-factor-of-requires
+factor-of-requires c κs = omega arith
+
+along-requires : tie.Need-along-requires
+along-requires c κs = search needs
+
+factor-of-requires-2 : tie.Need-factor-of-requires-2
+factor-of-requires-2 c κs = omega arith
+
+aside-requires : tie.Need-aside-requires
+aside-requires c κs = search needs
+
+returns : tie.Need-returns
+returns c =
+    let second = c .before in
+    let first = second .before .before in
+    let square = first .before in
+    let x = square .before .args in
+    series-at (x .negative) (x .angle) (square .square-of .result) (square .square-of .ensures .0) spiralSeries (x .length)
+    (first .factor-of .result) (second .factor-of2 .result) _ (first .factor-of .ensures .0) (second .factor-of2 .ensures .0)
+    refl (second .before .along .ensures) (c .aside .ensures)
+
+pub spiral-spec : {M : Type 1} → statement M
+spiral-spec =
+    tie.close
+    (tie.spec
+    square-of-requires
+    factor-of-requires
+    along-requires
+    factor-of-requires-2
+    aside-requires
+    returns)

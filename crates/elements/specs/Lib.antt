@@ -1,0 +1,6 @@
+-- What the contracts of this crate cite.
+pub mod Signs
+pub mod Prepared
+pub mod Reached
+pub mod Extent
+pub mod Read

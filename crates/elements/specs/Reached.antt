@@ -1,0 +1,74 @@
+-- What is computed for a station, as magnitudes: the angle t, u and v. Their signs are those of the radius, and of the kind for u.
+use Prim.Native.Nat.{ℕ, _%_, _^_, _<_, _≤_}
+use mathlib.Core.Path.{_≡_}
+use lib.IntN.{ℤ, pos, natAbs}
+use Rattle.model.specs.Rounding.{ONE}
+use Rattle.model.specs.Series.{Series, seriesAlong, seriesAside, cosine, sine, angleAt, localAt, turned, movedBy}
+use Rattle.model.specs.declared.Element.{Element}
+use Rattle.model.specs.declared.Point.{Point}
+use Rattle.elements.specs.declared.Placement.{Placement}
+use Rattle.elements.specs.declared.series.Reach.{Reach}
+use Rattle.elements.specs.declared.series.Turn.{Turn}
+use Rattle.elements.specs.Signs.{withSign, signOf}
+use Rattle.elements.specs.Prepared.{backward}
+
+-- what F(a; b, d) asks of the square and of its numbers
+pub record Factorable (square a b d : ℕ) : Type 0 where
+  pub small : square ≤ ONE
+  pub outer : (1 ≤ a) × (a ≤ 14)
+  pub ratio : b ≤ d
+  pub inner : (1 < d) × (d ≤ 220)
+  pub even : d % 2 ≡ 0
+
+-- what the series ask of a length in mm, an angle and a sign
+pub record Curved (length angle negative : ℕ) : Type 0 where
+  pub longest : length ≤ 500000
+  pub widest : angle ≤ 2 ^ 29
+  pub sign : negative ≤ 1
+
+-- r is u and v of a series at a length in mm and an angle
+pub record SeriesAt (k : Series) (length angle negative : ℕ) (r : Reach) : Type 0 where
+  pub turned : r .angle ≡ angle
+  pub along : pos (r .along) ≡ seriesAlong k length (withSign negative (pos angle))
+  pub aside : withSign negative (pos (r .aside)) ≡ seriesAside k length (withSign negative (pos angle))
+
+-- r is the direction at an angle
+pub record TurnAt (angle negative : ℕ) (r : Turn) : Type 0 where
+  pub along : pos (r .cosine) ≡ cosine (withSign negative (pos angle))
+  pub aside : withSign negative (pos (r .sine)) ≡ sine (withSign negative (pos angle))
+
+-- r is the angle, u and v of an element at s mm from its start
+pub record Reached (e : Element) (s : ℕ) (r : Reach) : Type 0 where
+  pub turned : withSign (signOf (e .radius)) (pos (r .angle)) ≡ angleAt e s
+  pub along : withSign (backward (e .kind)) (pos (r .along)) ≡ localAt e s .along
+  pub aside : withSign (signOf (e .radius)) (pos (r .aside)) ≡ localAt e s .aside
+
+-- the position from the magnitudes of u and v, and the direction from that of the angle
+unfoldable pub pointOf : Element → Reach → Point
+unfolding movedBy turned backward withSign signOf
+pointOf e r =
+    movedBy (e .x) (e .y)
+    (turned (e .c) (e .s)
+    (record { along = withSign (backward (e .kind)) (pos (r .along)); aside = withSign (signOf (e .radius)) (pos (r .aside)) }))
+
+unfoldable pub headingOf : Element → ℕ → Point
+unfolding turned cosine sine backward withSign signOf
+headingOf e angle =
+    let t = withSign (signOf (e .radius)) (pos angle) in
+    turned (e .c) (e .s) (record { along = cosine t; aside = withSign (backward (e .kind)) (sine t) })
+
+abbrev pub placementOf : Point → Point → Placement
+placementOf p t = record { x = p .x; y = p .y; tx = t .x; ty = t .y }
+
+-- what a point asks of its magnitudes
+pub record Near (r : Reach) : Type 0 where
+  pub along : r .along ≤ ONE
+  pub aside : r .aside ≤ ONE
+
+-- what a coordinate asks of its numbers
+pub record Turnable (x a : ℤ) (u : ℕ) (b : ℤ) (v : ℕ) : Type 0 where
+  pub anchor : natAbs x ≤ 200000000
+  pub first : natAbs a ≤ ONE
+  pub second : natAbs b ≤ ONE
+  pub along : u ≤ ONE
+  pub aside : v ≤ ONE

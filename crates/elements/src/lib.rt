@@ -1,0 +1,175 @@
+// Position and direction on one element, in 64 bits, equal to the definitions of `model` for every accepted element.
+// What depends on the element alone is prepared once; a station is then computed from magnitudes.
+use crate::series::Reach;
+use model::Element;
+use model::Kind;
+use model::Point;
+ghost use mathlib.Core.Path.{_≡_};
+ghost use Prim.Native.Nat.{_^_, _≤_, _<_};
+ghost use lib.IntN.{pos, natAbs, _+ℤ_, _*ℤ_};
+ghost use Rattle.model.specs.Rounding.{ONE, near};
+ghost use Rattle.model.specs.Accepted.{Accepted};
+ghost use Rattle.model.specs.Series.{positionOn, tangentOn, angleAt};
+ghost use Rattle.elements.specs.Signs.{withSign, signOf};
+ghost use Rattle.elements.specs.Prepared.{divisorOf, backward, preparedOf, Ready};
+ghost use Rattle.elements.specs.Reached.{Turnable, Near, Reached, pointOf, headingOf, placementOf};
+
+pub mod acceptance;
+pub mod rounding;
+mod series;
+mod signs;
+
+// What depends on the element alone: the sign of the radius (1 where it is negative), the divisor of the angle with what
+// is added before the division, and the axes along which the magnitudes of u and of v count.
+pub struct Prepared {
+    pub element: Element,
+    pub negative: u64,
+    pub divisor: u64,
+    pub half: u64,
+    pub ux: i64,
+    pub uy: i64,
+    pub vx: i64,
+    pub vy: i64,
+}
+
+// Position and direction at a station.
+pub struct Placement {
+    pub x: i64,
+    pub y: i64,
+    pub tx: i64,
+    pub ty: i64,
+}
+
+fn divisor_of(kind: Kind, radius: u64, length: u64) -> u64
+    requires { ⌜ (radius ≤ 10000000) × (length ≤ 500000) ⌝ }
+    ensures { λ r. ⌜ r ≡ divisorOf kind radius length ⌝ }
+{
+    match kind {
+        Kind::Line => 0,
+        Kind::Arc => 2 * radius,
+        Kind::EntrySpiral => 2 * radius * length,
+        Kind::ExitSpiral => 2 * radius * length,
+    }
+}
+
+fn backward_on(kind: Kind) -> u64
+    ensures { λ r. ⌜ r ≡ backward kind ⌝ }
+{
+    match kind {
+        Kind::Line => 0,
+        Kind::Arc => 0,
+        Kind::EntrySpiral => 0,
+        Kind::ExitSpiral => 1,
+    }
+}
+
+// An accepted element, prepared.
+pub fn prepare(e: Element) -> Prepared
+    requires { ⌜ Accepted e ⌝ }
+    ensures { λ r. ⌜ r ≡ preparedOf e ⌝ }
+    ensures ready { λ r. ⌜ Ready r ⌝ }
+{
+    let kind = e.kind;
+    let negative = signs::sign_of(e.radius);
+    let divisor = divisor_of(kind, signs::magnitude(e.radius), e.length);
+    let back = backward_on(kind);
+    Prepared {
+        element: e,
+        negative,
+        divisor,
+        half: divisor / 2 - negative,
+        ux: signs::with_sign(back, e.c),
+        uy: signs::with_sign(back, e.s),
+        vx: signs::with_sign(negative, signs::with_sign(1, e.s)),
+        vy: signs::with_sign(negative, e.c),
+    }
+}
+
+// The angle, u and v at s mm from the element's start.
+fn reach(p: Prepared, s: u64) -> Reach
+    requires { ⌜ Ready p ⌝ }
+    requires { ⌜ s ≤ p .element .length ⌝ }
+    ensures { λ r. ⌜ Reached (p .element) s r ⌝ }
+{
+    let e = p.element;
+    let kind = e.kind;
+    match kind {
+        Kind::Line => Reach {
+            angle: 0,
+            along: 100 * s,
+            aside: 0,
+        },
+        Kind::Arc => series::arc(s, series::arc_angle(s, p.half, p.divisor), p.negative),
+        Kind::EntrySpiral => series::spiral(
+            s,
+            series::spiral_angle(s, p.half, p.divisor),
+            p.negative,
+        ),
+        Kind::ExitSpiral => {
+            let l = e.length - s;
+            series::spiral(l, series::spiral_angle(l, p.half, p.divisor), p.negative)
+        }
+    }
+}
+
+// A coordinate: from `x`, u along an axis with the component a, and v along one with the component b.
+fn turned(x: i64, a: i64, u: u64, b: i64, v: u64) -> i64
+    requires { ⌜ Turnable x a u b v ⌝ }
+    ensures { λ r. ⌜ r ≡ x +ℤ near (a *ℤ pos u +ℤ b *ℤ pos v) ONE ⌝ }
+{
+    x + rounding::near_one(a * (u as i64) + b * (v as i64))
+}
+
+fn point_at(p: Prepared, r: Reach) -> Point
+    requires { ⌜ Ready p ⌝ }
+    requires { ⌜ Near r ⌝ }
+    ensures { λ q. ⌜ q ≡ pointOf (p .element) r ⌝ }
+{
+    let e = p.element;
+    Point {
+        x: turned(e.x, p.ux, r.along, p.vx, r.aside),
+        y: turned(e.y, p.uy, r.along, p.vy, r.aside),
+    }
+}
+
+// The direction of an exit spiral turns the other way than its v: the second axis goes backward, and the first goes forward.
+fn heading_at(p: Prepared, angle: u64) -> Point
+    requires { ⌜ Ready p ⌝ }
+    requires { ⌜ angle ≤ 2 ^ 29 ⌝ }
+    ensures { λ q. ⌜ q ≡ headingOf (p .element) angle ⌝ }
+{
+    let e = p.element;
+    let kind = e.kind;
+    let d = series::direction(angle, p.negative);
+    let back = backward_on(kind);
+    Point {
+        x: turned(0, e.c, d.cosine, signs::with_sign(back, p.vx), d.sine),
+        y: turned(0, e.s, d.cosine, signs::with_sign(back, p.vy), d.sine),
+    }
+}
+
+// The position at s mm from the element's start.
+pub fn position(p: Prepared, s: u64) -> Point
+    requires { ⌜ Ready p ⌝ }
+    requires { ⌜ s ≤ p .element .length ⌝ }
+    ensures { λ r. ⌜ r ≡ positionOn (p .element) s ⌝ }
+{
+    point_at(p, reach(p, s))
+}
+
+// The position and the direction at s mm from the element's start.
+pub fn placed(p: Prepared, s: u64) -> Placement
+    requires { ⌜ Ready p ⌝ }
+    requires { ⌜ s ≤ p .element .length ⌝ }
+    ensures { λ r. ⌜ r ≡ placementOf (positionOn (p .element) s) (tangentOn (p .element) s) ⌝ }
+{
+    let r = reach(p, s);
+    let at = point_at(p, r);
+    let heading = heading_at(p, r.angle);
+    Placement {
+        x: at.x,
+        y: at.y,
+        tx: heading.x,
+        ty: heading.y,
+    }
+}

@@ -1,0 +1,90 @@
+#!/usr/bin/env python3
+"""Writes the vector file that the program element_vectors compares with: positions and directions on elements.
+
+usage: element_vectors.py FILE
+A block for each element: its record of 32 bytes, then 8 rows of 20 bytes, each a station s from the element's start,
+u32, and X, Y, Tx, Ty there, i32. All little-endian. The same file each time.
+"""
+
+import random
+import struct
+import sys
+
+import crest
+import random_crests
+from crest import ARC, ENTRY, EXIT, FRAME, LINE, LONGEST, ONE, WIDEST, Element
+
+BLOCKS = 2_600
+ROW = struct.Struct("<Iiiii")
+LENGTHS = (1, 2, 3, 10, 999, 100_001, LONGEST - 1, LONGEST)
+
+
+def edge_directions():
+    """The axes, and the longest and the shortest pairs of the unit test in each quadrant, both ways round."""
+    longest, _, shortest, _ = random_crests.unit_limit_pairs()
+    for c, s in longest, shortest, (ONE, 0):
+        for pair in (c, s), (s, c):
+            for signs in (1, 1), (1, -1), (-1, 1), (-1, -1):
+                yield pair[0] * signs[0], pair[1] * signs[1]
+
+
+def least_radius(kind, length):
+    return 2 * length if kind == ARC else length
+
+
+def edge_shapes():
+    """Kind, length and radius with both at their limits and one within."""
+    for length in LENGTHS:
+        yield LINE, length, 0
+        for kind in ARC, ENTRY, EXIT:
+            least = least_radius(kind, length)
+            for size in sorted({least, least + 1, (least + WIDEST) // 2, WIDEST - 1, WIDEST}):
+                if least <= size <= WIDEST:
+                    yield kind, length, size
+                    yield kind, length, -size
+
+
+def random_shape(rng):
+    kind = rng.choice((LINE, ARC, ENTRY, EXIT, ARC, ENTRY, EXIT))
+    length = round(LONGEST ** rng.random()) if rng.random() < 0.5 else rng.randint(1, LONGEST)
+    if kind == LINE:
+        return kind, length, 0
+    least = least_radius(kind, length)
+    size = round(least * (WIDEST / least) ** rng.random())
+    return kind, length, rng.choice((-1, 1)) * min(max(size, least), WIDEST)
+
+
+def stations(rng, length):
+    """Both ends, the stations next to them, the middle and three others."""
+    wanted = [0, length, min(1, length), max(length - 1, 0), length // 2]
+    return wanted + [rng.randint(0, length) for _ in range(3)]
+
+
+def elements(rng):
+    edges = list(edge_directions())
+    corners = [(x, y) for x in (-FRAME, FRAME) for y in (-FRAME, FRAME)]
+    shapes = list(edge_shapes())
+    for i in range(BLOCKS):
+        shape = shapes[i // 2] if i < 2 * len(shapes) else random_shape(rng)
+        direction = edges[i % len(edges)] if i % 2 == 0 else random_crests.random_unit(rng)
+        place = rng.choice(corners) if i % 5 == 0 else (rng.randint(-FRAME, FRAME), rng.randint(-FRAME, FRAME))
+        kind, length, radius = shape
+        yield Element(kind, length, *place, *direction, radius)
+
+
+def block(rng, element):
+    record = crest.record_of(element)
+    assert crest.record_fault(record) == 0, element
+    rows = [ROW.pack(s, *crest.position(element, s), *crest.direction(element, s)) for s in stations(rng, element.length)]
+    return record + b"".join(rows)
+
+
+def main():
+    rng = random.Random(4)
+    with open(sys.argv[1], "wb") as file:
+        for element in elements(rng):
+            file.write(block(rng, element))
+
+
+if __name__ == "__main__":
+    main()

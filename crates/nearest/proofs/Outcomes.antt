@@ -1,0 +1,220 @@
+-- The outcome of a point: its four rules give four different numbers, so each is given exactly when its rule is the first that does not hold; and what its test computes
+-- is the condition of document 01's table.
+use mathlib.Core.Bool.{Bool, true, false, not, _&&_}
+use mathlib.Core.List.{List, [], _∷_, _++_}
+use mathlib.Core.Logic.{_↔_, Iff·trans}
+use mathlib.Core.Path.{_≡_, refl, sym, _∙_, ap, subst}
+use Prim.Native.Nat.{ℕ, _+_, _≤_, _<_}
+use native.Mathlib.Omega.{arith}
+use lib.ListN.{length, length-append}
+use lib.Dec.{T, leb, eqb, eqb→eq}
+use lib.IntN.{ℤ, pos, negℤ}
+use lib.Signed.{ltZ, ltZ-yes, _<ℤ_}
+use lib.Ieee.Bits.{is-true}
+use mir.Facts.{and-yes, yes-and, yes-eqb}
+use borrow.Author.Tests.{leb-true, leb-false, le-leb, lt-leb, not-false}
+use Rattle.integers.proofs.Order.{order}
+use Rattle.model.specs.declared.Element.{Element}
+use Rattle.model.specs.declared.Point.{Point}
+use Rattle.model.specs.declared.Refusal.{Refusal}
+use Rattle.model.specs.declared.Outcome.{Outcome}
+use Rattle.model.specs.declared.Outcome.the-variants.{Done, Refused}
+use Rattle.model.specs.declared.Located.{Located}
+use Rattle.model.specs.declared.Located.the-variants.{At as LocatedAt, Refused as LocatedRefused}
+use Rattle.model.specs.Refusals.{Reason, Rule, rule₀, number, refusal, verdict, outsideFrame, tooFar, beforeStart, afterEnd}
+use Rattle.model.specs.Acceptance.{inFrame, checked, crestElements}
+use Rattle.model.specs.Stations.{total, D}
+use Rattle.model.specs.Judged.{judged, residualAt, offsetAt}
+use Rattle.model.specs.Walk.{firstVisits, secondVisits, visits, visitCount}
+use Rattle.model.specs.Answers.{pointRules, locatedIf, locatedAfter, locatedOn, located}
+use Rattle.model.proofs.Verdict.{AllHold, none, more, done→all, all→done}
+use Rattle.nearest.proofs.Crest.{located-exactly}
+use Rattle.nearest.proofs.Reasons.{first-holds, rest-hold, Lacks, empty, other, given-exactly}
+
+-- ---- the table's conditions, each where none before it applies
+
+abbrev pub TooFar : List Element → Point → Type 0
+TooFar es p = (inFrame (p .x) (p .y) ≡ true) × (400000000000000 < D es p (judged es p))
+
+abbrev pub BeforeStart : List Element → Point → Type 0
+BeforeStart es p = (inFrame (p .x) (p .y) ≡ true) × (D es p (judged es p) ≤ 400000000000000) × (judged es p ≡ 0) × (residualAt es p (judged es p) <ℤ negℤ (pos 100))
+
+abbrev pub AfterEnd : List Element → Point → Type 0
+AfterEnd es p = (inFrame (p .x) (p .y) ≡ true) × (D es p (judged es p) ≤ 400000000000000) × (judged es p ≡ total es) × (pos 100 <ℤ residualAt es p (judged es p))
+
+-- An answer: none of 11 to 14 applies, and it gives the station judged with its offset and residual, and how many stations both passes visit.
+pub record Answered (es : List Element) (p : Point) (at : ℕ) (w r : ℤ) (n : ℕ) : Type 0 where
+  pub inside : inFrame (p .x) (p .y) ≡ true
+  pub near : D es p (judged es p) ≤ 400000000000000
+  pub notBefore : ¬ ((judged es p ≡ 0) × (residualAt es p (judged es p) <ℤ negℤ (pos 100)))
+  pub notAfter : ¬ ((judged es p ≡ total es) × (pos 100 <ℤ residualAt es p (judged es p)))
+  pub station : at ≡ judged es p
+  pub offset : w ≡ offsetAt es p (judged es p)
+  pub residual : r ≡ residualAt es p (judged es p)
+  pub count : n ≡ length (firstVisits (total es)) + length (secondVisits es p)
+
+-- ---- what the tests compute
+
+at-end-fails : (s t : ℕ) (a b : ℤ) → (not (eqb s t && ltZ a b) ≡ false) ↔ ((s ≡ t) × (a <ℤ b))
+at-end-fails s t a b = (
+  (λ e. let x = and-yes (eqb s t) (ltZ a b) (subst T (sym (not-false (eqb s t && ltZ a b) e)) tt) in (eqb→eq s t (x .0), ltZ-yes (x .1))),
+  (λ x. ap not (is-true (eqb s t && ltZ a b) (yes-and (eqb s t) (ltZ a b) (yes-eqb (x .0)) (x .1 .lt)))),
+)
+
+-- a test that fails exactly when P holds, holds exactly when P does not
+holds-unless : {P : Type 0} (b : Bool) → ((b ≡ false) ↔ P) → (b ≡ true) ↔ (¬ P)
+holds-unless true f = ((λ e x. let z : _≡_ {A = ℕ} 0 1 = cc (f .1 x) in omega arith), (λ h. refl))
+holds-unless false f = ((λ e. let z : _≡_ {A = ℕ} 0 1 = cc in absurd (omega arith)), (λ h. absurd (h (f .0 refl))))
+
+-- ---- from the verdict to the answer
+
+located-refused : (o : Outcome) (es : List Element) (p : Point) (s : ℕ) (w : Refusal) → (locatedIf o es p s ≡ LocatedRefused w) ↔ (o ≡ Refused w)
+unfolding locatedIf
+located-refused Done es p s w = ((λ e. let z : _≡_ {A = ℕ} 0 1 = cc in absurd (omega arith)), (λ e. let z : _≡_ {A = ℕ} 0 1 = cc in absurd (omega arith)))
+located-refused (Refused r) es p s w = ((λ e. cc), (λ e. cc))
+
+pub count-is : (es : List Element) (p : Point) → visitCount es p ≡ length (firstVisits (total es)) + length (secondVisits es p)
+unfolding visitCount visits
+count-is es p = length-append (firstVisits (total es)) (secondVisits es p)
+
+located-at : (o : Outcome) (es : List Element) (p : Point) (s station : ℕ) (offset residual : ℤ) (count : ℕ) → (locatedIf o es p s ≡ LocatedAt station offset residual count) ↔
+    ((o ≡ Done) × (station ≡ s) × (offset ≡ offsetAt es p s) × (residual ≡ residualAt es p s) × (count ≡ visitCount es p))
+unfolding locatedIf
+located-at Done es p s station offset residual count = ((λ e. (refl, cc, cc, cc, cc)), (λ x. cc (x .1, x .2, x .3, x .4)))
+located-at (Refused r) es p s station offset residual count = ((λ e. let z : _≡_ {A = ℕ} 0 1 = cc in absurd (omega arith)), (λ x. let z : _≡_ {A = ℕ} 0 1 = cc (x .0) in absurd (omega arith)))
+
+-- ---- each outcome
+
+module _ (es : List Element) (p : Point) where
+  abbrev frame : Rule
+  frame = rule₀ outsideFrame (inFrame (p .x) (p .y))
+
+  abbrev near : Rule
+  near = rule₀ tooFar (leb (D es p (judged es p)) 400000000000000)
+
+  abbrev start : Rule
+  start = rule₀ beforeStart (not (eqb (judged es p) 0 && ltZ (residualAt es p (judged es p)) (negℤ (pos 100))))
+
+  abbrev end : Rule
+  end = rule₀ afterEnd (not (eqb (judged es p) (total es) && ltZ (pos 100) (residualAt es p (judged es p))))
+
+  near-holds : (near .holds ≡ true) ↔ (D es p (judged es p) ≤ 400000000000000)
+  near-holds = (leb-true (D es p (judged es p)) 400000000000000, le-leb (D es p (judged es p)) 400000000000000)
+
+  near-fails : (near .holds ≡ false) ↔ (400000000000000 < D es p (judged es p))
+  near-fails = (leb-false (D es p (judged es p)) 400000000000000, lt-leb (D es p (judged es p)) 400000000000000)
+
+  start-fails : (start .holds ≡ false) ↔ ((judged es p ≡ 0) × (residualAt es p (judged es p) <ℤ negℤ (pos 100)))
+  start-fails = at-end-fails (judged es p) 0 (residualAt es p (judged es p)) (negℤ (pos 100))
+
+  start-holds : (start .holds ≡ true) ↔ (¬ ((judged es p ≡ 0) × (residualAt es p (judged es p) <ℤ negℤ (pos 100))))
+  start-holds = holds-unless (start .holds) start-fails
+
+  end-fails : (end .holds ≡ false) ↔ ((judged es p ≡ total es) × (pos 100 <ℤ residualAt es p (judged es p)))
+  end-fails = at-end-fails (judged es p) (total es) (pos 100) (residualAt es p (judged es p))
+
+  end-holds : (end .holds ≡ true) ↔ (¬ ((judged es p ≡ total es) × (pos 100 <ℤ residualAt es p (judged es p))))
+  end-holds = holds-unless (end .holds) end-fails
+
+  refused-by : (before : List Rule) (r : Rule) (after : List Rule) → before ++ (r ∷ after) ≡ (frame ∷ near ∷ start ∷ end ∷ []) →
+      Lacks (number (r .why)) before → Lacks (number (r .why)) after → (locatedOn es p ≡ LocatedRefused (refusal (r .why) (r .place))) ↔ (AllHold before × (r .holds ≡ false))
+  unfolding locatedOn locatedAfter pointRules
+  refused-by before r after split k l =
+      Iff·trans
+      (located-refused (verdict (frame ∷ near ∷ start ∷ end ∷ [])) es p (judged es p) (refusal (r .why) (r .place)))
+      (rw split at (given-exactly r after l before k))
+
+  pub outside-frame : (locatedOn es p ≡ LocatedRefused (refusal outsideFrame 0)) ↔ (inFrame (p .x) (p .y) ≡ false)
+  unfolding number
+  outside-frame =
+      Iff·trans
+      (refused-by [] frame (near ∷ start ∷ end ∷ []) refl empty (other (omega arith) (other (omega arith) (other (omega arith) empty))))
+      ((λ x. x .1), (λ e. (none, e)))
+
+  pub too-far : (locatedOn es p ≡ LocatedRefused (refusal tooFar 0)) ↔ TooFar es p
+  unfolding number
+  too-far =
+      Iff·trans
+      (refused-by (frame ∷ []) near (start ∷ end ∷ []) refl (other (omega arith) empty) (other (omega arith) (other (omega arith) empty)))
+      ((λ x. (first-holds (x .0), near-fails .0 (x .1))), (λ x. (more (x .0) none, near-fails .1 (x .1))))
+
+  pub before-start : (locatedOn es p ≡ LocatedRefused (refusal beforeStart 0)) ↔ BeforeStart es p
+  unfolding number
+  before-start =
+      Iff·trans
+      (refused-by (frame ∷ near ∷ []) start (end ∷ []) refl (other (omega arith) (other (omega arith) empty)) (other (omega arith) empty)) (
+        (λ x. let y = start-fails .0 (x .1) in (first-holds (x .0), near-holds .0 (first-holds (rest-hold (x .0))), y .0, y .1)),
+        (λ x. (more (x .0) (more (near-holds .1 (x .1)) none), start-fails .1 (x .2, x .3))),
+      )
+
+  pub after-end : (locatedOn es p ≡ LocatedRefused (refusal afterEnd 0)) ↔ AfterEnd es p
+  unfolding number
+  after-end =
+      Iff·trans
+      (refused-by (frame ∷ near ∷ start ∷ []) end [] refl (other (omega arith) (other (omega arith) (other (omega arith) empty))) empty) (
+        (λ x. let y = end-fails .0 (x .1) in (first-holds (x .0), near-holds .0 (first-holds (rest-hold (x .0))), y .0, y .1)),
+        (λ x. (more (x .0) (more (near-holds .1 (x .1)) (more (start-holds .1 (λ y. absurd (omega (order, x .3, y .1)))) none)), end-fails .1 (x .2, x .3))),
+      )
+
+  pub answered : (station : ℕ) (offset residual : ℤ) (count : ℕ) → (locatedOn es p ≡ LocatedAt station offset residual count) ↔ Answered es p station offset residual count
+  unfolding locatedOn locatedAfter pointRules
+  answered station offset residual count = Iff·trans (located-at (verdict rules) es p (judged es p) station offset residual count) (parts, whole)
+    where
+      rules : List Rule
+      rules = frame ∷ near ∷ start ∷ end ∷ []
+
+      parts : (verdict rules ≡ Done) × (station ≡ judged es p) × (offset ≡ offsetAt es p (judged es p)) × (residual ≡ residualAt es p (judged es p)) × (count ≡ visitCount es p) → Answered es p station offset residual count
+      parts x =
+          let a = done→all rules (x .0) in
+          let b = rest-hold a in
+          let c = rest-hold b in
+          record {
+            inside = first-holds a;
+            near = near-holds .0 (first-holds b);
+            notBefore = start-holds .0 (first-holds c);
+            notAfter = end-holds .0 (first-holds (rest-hold c));
+            station = x .1;
+            offset = x .2;
+            residual = x .3;
+            count = x .4 ∙ count-is es p;
+          }
+
+      whole : Answered es p station offset residual count → (verdict rules ≡ Done) × (station ≡ judged es p) × (offset ≡ offsetAt es p (judged es p)) × (residual ≡ residualAt es p (judged es p)) × (count ≡ visitCount es p)
+      whole y = (
+        all→done (more (y .inside) (more (near-holds .1 (y .near)) (more (start-holds .1 (y .notBefore)) (more (end-holds .1 (y .notAfter)) none)))),
+        y .station,
+        y .offset,
+        y .residual,
+        y .count ∙ sym (count-is es p),
+      )
+
+-- ---- over bytes: the crest's own refusals first
+
+module _ (file : List ℕ) (p : Point) where
+  -- an outcome that no crest gives of its own, with the condition C over elements
+  over-bytes : (l : Located) {C : Type 0} → ((w : Refusal) → l ≡ LocatedRefused w → 9 < w .number) → (locatedOn (crestElements file) p ≡ l) ↔ C → (located file p ≡ l) ↔ ((checked file ≡ Done) × C)
+  over-bytes l above c = Iff·trans (located-exactly file p l above) ((λ x. (x .0, c .0 (x .1))), (λ x. (x .0, c .1 (x .1))))
+
+  refused-over-bytes : (why : Reason) {C : Type 0} → 9 < number why → (locatedOn (crestElements file) p ≡ LocatedRefused (refusal why 0)) ↔ C → (located file p ≡ LocatedRefused (refusal why 0)) ↔ ((checked file ≡ Done) × C)
+  unfolding refusal
+  refused-over-bytes why h c = over-bytes (LocatedRefused (refusal why 0)) (λ w e. let n : number why ≡ w .number = cc in omega arith) c
+
+  pub file-outside-frame : (located file p ≡ LocatedRefused (refusal outsideFrame 0)) ↔ ((checked file ≡ Done) × (inFrame (p .x) (p .y) ≡ false))
+  unfolding number
+  file-outside-frame = refused-over-bytes outsideFrame (omega arith) (outside-frame (crestElements file) p)
+
+  pub file-too-far : (located file p ≡ LocatedRefused (refusal tooFar 0)) ↔ ((checked file ≡ Done) × TooFar (crestElements file) p)
+  unfolding number
+  file-too-far = refused-over-bytes tooFar (omega arith) (too-far (crestElements file) p)
+
+  pub file-before-start : (located file p ≡ LocatedRefused (refusal beforeStart 0)) ↔ ((checked file ≡ Done) × BeforeStart (crestElements file) p)
+  unfolding number
+  file-before-start = refused-over-bytes beforeStart (omega arith) (before-start (crestElements file) p)
+
+  pub file-after-end : (located file p ≡ LocatedRefused (refusal afterEnd 0)) ↔ ((checked file ≡ Done) × AfterEnd (crestElements file) p)
+  unfolding number
+  file-after-end = refused-over-bytes afterEnd (omega arith) (after-end (crestElements file) p)
+
+  pub file-answered : (station : ℕ) (offset residual : ℤ) (count : ℕ) → (located file p ≡ LocatedAt station offset residual count) ↔ ((checked file ≡ Done) × Answered (crestElements file) p station offset residual count)
+  file-answered station offset residual count =
+      over-bytes (LocatedAt station offset residual count) (λ w e. let z : _≡_ {A = ℕ} 0 1 = cc in absurd (omega arith)) (answered (crestElements file) p station offset residual count)

@@ -1,0 +1,88 @@
+-- A number that one rule of an order gives, and no other, is given exactly when that rule is the first that does not hold: by induction over the rules before it.
+use mathlib.Core.Bool.{Bool, true, false}
+use mathlib.Core.List.{List, [], _∷_, _++_}
+use mathlib.Core.Logic.{_↔_, _≢_}
+use mathlib.Core.Path.{_≡_, refl}
+use Prim.Native.Nat.{ℕ, zero, suc, _+_}
+use native.Mathlib.Omega.{arith}
+use Rattle.model.specs.declared.Refusal.{Refusal}
+use Rattle.model.specs.declared.Outcome.the-variants.{Refused}
+use Rattle.model.specs.Refusals.{Rule, number, refusal, orRefused, verdict, forEach}
+use Rattle.model.proofs.Verdict.{AllHold, none, more, first→refused}
+
+-- ---- rules that hold
+
+pub first-holds : {r : Rule} {rs : List Rule} → AllHold (r ∷ rs) → r .holds ≡ true
+first-holds (more h a) = h
+
+pub rest-hold : {r : Rule} {rs : List Rule} → AllHold (r ∷ rs) → AllHold rs
+rest-hold (more h a) = a
+
+pub all-++ : (rs : List Rule) {ss : List Rule} → AllHold (rs ++ ss) → AllHold rs × AllHold ss
+all-++ [] a = (none, a)
+all-++ (r ∷ rs) (more h a) = let x = all-++ rs a in (more h (x .0), x .1)
+
+-- ---- the number that is given
+
+-- no rule of the list gives the number n
+pub data Lacks (n : ℕ) : List Rule → Type 0 where
+  empty : Lacks n []
+  other : {r : Rule} {rs : List Rule} → number (r .why) ≢ n → Lacks n rs → Lacks n (r ∷ rs)
+
+pub lacks-++ : {n : ℕ} {rs ss : List Rule} → Lacks n rs → Lacks n ss → Lacks n (rs ++ ss)
+lacks-++ empty l = l
+lacks-++ (other h k) l = other h (lacks-++ k l)
+
+pub lacks-forEach : {n : ℕ} {f : ℕ → List Rule} → ((i : ℕ) → Lacks n (f i)) → (k i : ℕ) → Lacks n (forEach f k i)
+unfolding forEach
+lacks-forEach h zero i = empty
+lacks-forEach h (suc k) i = lacks-++ (h i) (lacks-forEach h k (i + 1))
+
+-- a refusal of an order that begins with r comes from r, or from the rules after it
+data Source (r : Rule) (rs : List Rule) (w : Refusal) : Type 0 where
+  from-first : r .holds ≡ false → number (r .why) ≡ w .number → Source r rs w
+  from-rest : r .holds ≡ true → verdict rs ≡ Refused w → Source r rs w
+
+source : (r : Rule) (rs : List Rule) (w : Refusal) → verdict (r ∷ rs) ≡ Refused w → Source r rs w
+unfolding verdict orRefused refusal
+source r rs w e = go (r .holds) refl e
+  where
+    go : (b : Bool) → r .holds ≡ b → orRefused b (r .why) (r .place) (verdict rs) ≡ Refused w → Source r rs w
+    go true h f = from-rest h f
+    go false h f = from-first h (cc)
+
+pub lacks→not-given : {rs : List Rule} {w : Refusal} → Lacks (w .number) rs → verdict rs ≡ Refused w → ⊥
+unfolding verdict
+lacks→not-given empty e = let z : _≡_ {A = ℕ} 0 1 = cc in omega arith
+lacks→not-given {w} (other {r} {rs} h l) e = go (lacks→not-given l) (source r rs w e)
+  where
+    go : (verdict rs ≡ Refused w → ⊥) → Source r rs w → ⊥
+    go rest (from-first f n) = h n
+    go rest (from-rest f d) = rest d
+
+-- the refusal of an order stays where more rules come after it
+pub refused-++ : (rs ss : List Rule) {w : Refusal} → verdict rs ≡ Refused w → verdict (rs ++ ss) ≡ Refused w
+unfolding verdict orRefused
+refused-++ [] ss e = let z : _≡_ {A = ℕ} 0 1 = cc in absurd (omega arith)
+refused-++ (r ∷ rs) ss {w} e = go (r .holds) (refused-++ rs ss) e
+  where
+    go : (b : Bool) → (verdict rs ≡ Refused w → verdict (rs ++ ss) ≡ Refused w) → orRefused b (r .why) (r .place) (verdict rs) ≡ Refused w → orRefused b (r .why) (r .place) (verdict (rs ++ ss)) ≡ Refused w
+    go true rest f = rest f
+    go false rest f = f
+
+module _ (r : Rule) (after : List Rule) (l : Lacks (number (r .why)) after) where
+  first-failing : (before : List Rule) → Lacks (number (r .why)) before → verdict (before ++ (r ∷ after)) ≡ Refused (refusal (r .why) (r .place)) → AllHold before × (r .holds ≡ false)
+  unfolding refusal
+  first-failing [] empty e = go (source r after (refusal (r .why) (r .place)) e)
+    where
+      go : Source r after (refusal (r .why) (r .place)) → AllHold [] × (r .holds ≡ false)
+      go (from-first f n) = (none, f)
+      go (from-rest f d) = absurd (lacks→not-given l d)
+  first-failing (b ∷ bs) (other h k) e = go (first-failing bs k) (source b (bs ++ (r ∷ after)) (refusal (r .why) (r .place)) e)
+    where
+      go : (verdict (bs ++ (r ∷ after)) ≡ Refused (refusal (r .why) (r .place)) → AllHold bs × (r .holds ≡ false)) → Source b (bs ++ (r ∷ after)) (refusal (r .why) (r .place)) → AllHold (b ∷ bs) × (r .holds ≡ false)
+      go rest (from-first f n) = absurd (h n)
+      go rest (from-rest f d) = let x = rest d in (more f (x .0), x .1)
+
+  pub given-exactly : (before : List Rule) → Lacks (number (r .why)) before → (verdict (before ++ (r ∷ after)) ≡ Refused (refusal (r .why) (r .place))) ↔ (AllHold before × (r .holds ≡ false))
+  given-exactly before k = (first-failing before k, (λ x. first→refused (record { before = before; after = after; split = refl; hold = x .0; fails = x .1 })))

@@ -1,12 +1,12 @@
 -- The bound of document 01, "Position on an element": kind by kind it is the one statement of `Sums` at the numbers of the kind's series.
 use Prim.Native.Nat.{ℕ, _*_, _≤_}
 use native.Mathlib.Omega.{arith}
-use lib.IntN.{pos, negℤ-negℤ}
+use lib.IntN.{pos, natAbs, _-ℤ_, _*ℤ_, negℤ-negℤ}
 use Rattle.model.specs.declared.Kind.{Kind}
 use Rattle.model.specs.declared.Kind.the-variants.{Line, Arc, EntrySpiral, ExitSpiral}
 use Rattle.model.specs.declared.Element.{Element}
-use Rattle.model.specs.Series.{spiralSeries, seriesAlong, seriesAside, localOf, localAt}
-use Rattle.model.specs.Bound.{Fraction, Within2, exactAlong, exactAside, alongSum, asideSum, unsignedAlong, Bounded}
+use Rattle.model.specs.Series.{spiralSeries, seriesAlong, seriesAside, localOf, lengthAt, localAt}
+use Rattle.model.specs.Bound.{Fraction, Within2, exactAlong, exactAside, alongSum, asideSum, turnOf, unsignedAlong, Bounded}
 use Rattle.model.specs.Accepted.{Accepted}
 use Rattle.elements.proofs.Angle.{Turn, angle, angleAt-is, turnAt-turn, lengthAt-within}
 use Rattle.elements.proofs.Sums.{once-exact, near-along, near-aside}
@@ -41,3 +41,20 @@ bounded e a s h =
     let turn = turnAt-turn e a s h in
     let short = lengthAt-within e a s h in
     record { along = rw angleAt-is (along-within short turn (e .kind)); aside = rw angleAt-is (aside-within short turn (e .kind)) }
+
+-- The same with the denominator multiplied out: u, or U, and v, or V, times the denominator of their sums lie within twice the denominator of the numerators.
+abbrev pub sumAlong : Element → ℕ → Fraction
+sumAlong e s = exactAlong (e .kind) (lengthAt e s) (turnOf (e .kind) (e .radius) (e .length) (lengthAt e s))
+
+abbrev pub sumAside : Element → ℕ → Fraction
+sumAside e s = exactAside (e .kind) (lengthAt e s) (turnOf (e .kind) (e .radius) (e .length) (lengthAt e s))
+
+pub along-within-2-grains : (e : Element) → Accepted e → (s : ℕ) → s ≤ e .length →
+    natAbs (pos (sumAlong e s .denominator) *ℤ unsignedAlong (e .kind) (localAt e s) -ℤ sumAlong e s .numerator) ≤ 2 * sumAlong e s .denominator
+unfolding Within2
+along-within-2-grains e a s h = bounded e a s h .along
+
+pub aside-within-2-grains : (e : Element) → Accepted e → (s : ℕ) → s ≤ e .length →
+    natAbs (pos (sumAside e s .denominator) *ℤ localAt e s .aside -ℤ sumAside e s .numerator) ≤ 2 * sumAside e s .denominator
+unfolding Within2
+aside-within-2-grains e a s h = bounded e a s h .aside

@@ -25,6 +25,7 @@ pub fn element(kind: Kind, length: u32, x: i32, y: i32, c: i32, s: i32, radius: 
     }
 }
 
+// The radius fits the kind and the length.
 fn radius_good(kind: Kind, length: u64, radius: u64) -> bool
     requires { ⌜ length < 2 ^ 32 ⌝ }
     ensures { λ r. ⌜ r ≡ radiusGood kind length radius ⌝ }
@@ -65,6 +66,7 @@ pub fn is_unit(c: i64, s: i64) -> bool
     }
 }
 
+// The element's record is refused with neither 6 nor 7.
 pub fn accepted(e: Element) -> bool
     requires { ⌜ Read e ⌝ }
     ensures { λ r. ⌜ r ≡ (rangesGood e && isUnit (e .c) (e .s)) ⌝ }

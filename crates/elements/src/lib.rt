@@ -40,6 +40,7 @@ pub struct Placement {
     pub ty: i64,
 }
 
+// The divisor of the angle, doubled on an arc.
 fn divisor_of(kind: Kind, radius: u64, length: u64) -> u64
     requires { ⌜ (radius ≤ 10000000) × (length ≤ 500000) ⌝ }
     ensures { λ r. ⌜ r ≡ divisorOf kind radius length ⌝ }
@@ -52,6 +53,7 @@ fn divisor_of(kind: Kind, radius: u64, length: u64) -> u64
     }
 }
 
+// 1 where u is negative.
 fn backward_on(kind: Kind) -> u64
     ensures { λ r. ⌜ r ≡ backward kind ⌝ }
 {
@@ -120,6 +122,7 @@ fn turned(x: i64, a: i64, u: u64, b: i64, v: u64) -> i64
     x + rounding::near_one(a * (u as i64) + b * (v as i64))
 }
 
+// The position from the magnitudes of u and v.
 fn point_at(p: Prepared, r: Reach) -> Point
     requires { ⌜ Ready p ⌝ }
     requires { ⌜ Near r ⌝ }
@@ -132,7 +135,7 @@ fn point_at(p: Prepared, r: Reach) -> Point
     }
 }
 
-// The direction of an exit spiral turns the other way than its v: the second axis goes backward, and the first goes forward.
+// The direction from the magnitude of the angle. On an exit spiral it turns the other way than v lies, so the axis of v is negated.
 fn heading_at(p: Prepared, angle: u64) -> Point
     requires { ⌜ Ready p ⌝ }
     requires { ⌜ angle ≤ 2 ^ 29 ⌝ }

@@ -60,6 +60,7 @@ pub fn aside(length: u64, angle: u64, negative: u64, f: u64, divisor: u64) -> u6
     near_even(w * f, divisor * ONE, negative)
 }
 
+// u and v of an arc.
 pub fn arc(length: u64, angle: u64, negative: u64) -> Reach
     requires { ⌜ Curved length angle negative ⌝ }
     ensures { λ r. ⌜ SeriesAt arcSeries length angle negative r ⌝ }
@@ -72,6 +73,7 @@ pub fn arc(length: u64, angle: u64, negative: u64) -> Reach
     }
 }
 
+// U and V of a spiral.
 pub fn spiral(length: u64, angle: u64, negative: u64) -> Reach
     requires { ⌜ Curved length angle negative ⌝ }
     ensures { λ r. ⌜ SeriesAt spiralSeries length angle negative r ⌝ }
@@ -84,6 +86,7 @@ pub fn spiral(length: u64, angle: u64, negative: u64) -> Reach
     }
 }
 
+// The direction, before a sign of the kind.
 pub fn direction(angle: u64, negative: u64) -> Turn
     requires { ⌜ Curved 0 angle negative ⌝ }
     ensures { λ r. ⌜ TurnAt angle negative r ⌝ }

@@ -1,0 +1,24 @@
+-- The crest file: what is written reads back, what is read is written again, and a changed byte is seen.
+pub mod Tests
+pub mod Bytes
+pub mod Fields
+pub mod Parts
+pub mod ForEach
+pub mod OneBlock
+pub mod BlockRules
+pub mod Blocks
+pub mod Crest
+pub mod WriterRules
+pub mod WrittenThenRead
+pub mod WrittenBytes
+pub mod ReadThenWritten
+pub mod Part
+pub mod SingleByte
+-- The laws of its functions.
+pub mod Rest
+pub mod Magnitude
+pub mod Unit
+pub mod Orders
+pub mod Count
+pub mod Puts
+pub mod PutBlocks

@@ -1,0 +1,106 @@
+-- What is put field by field is a block, and what is put block by block is the file: each starts where the one before it ends.
+use Prim.Native.Nat.{ℕ, suc, _+_, _-_, _*_, _≤_, _<_, min}
+use mathlib.Core.List.{List, [], _++_, append-assoc, append-nil}
+use mathlib.Core.Path.{_≡_, refl, sym, ap, _∙_}
+use native.Mathlib.Decide.{decLe}
+use native.Mathlib.Nat.{zero-add}
+use native.Mathlib.Omega.{arith}
+use lib.ListN.{length, take, drop, replicate, length-append, length-drop, length-replicate, length-take}
+use lib.Seq.{drop-drop, take-all, take-at, take-length}
+use Rattle.model.specs.Records.{put, u16Bytes, u32Bytes, sumA, sumB, countOf}
+use Rattle.model.specs.Writer.{blockBody, withSums, block, blocksFrom, blocksNeeded, fileOf}
+use Rattle.crestfile.proofs.OneBlock.{same-sums, length-body, block-length}
+use Rattle.crestfile.proofs.Puts.{put-none, put-length, put-whole, put-then}
+
+-- ---- the body, field by field
+
+pub fields-put : (l : List ℕ) (b : ℕ) (records : List ℕ) → length records ≤ 480 → put (put (put (put (put (put l 0 records) (length records) (replicate (480 - length records) 0)) 480 (u16Bytes b)) 482 (u16Bytes (countOf records))) 484 (u32Bytes 1)) 488 (replicate 20 0) ≡ put l 0 (blockBody b records)
+unfolding blockBody
+fields-put l b records h =
+    let p₁ = records ++ replicate (480 - length records) 0 in
+    let p₂ = p₁ ++ u16Bytes b in
+    let p₃ = p₂ ++ u16Bytes (countOf records) in
+    let p₄ = p₃ ++ u32Bytes 1 in
+    let n₁ : length p₁ ≡ 480 = simp (length-append, length-replicate) (omega arith) in
+    let n₂ : length p₂ ≡ 482 = rw (length-append, n₁) in
+    let n₃ : length p₃ ≡ 484 = rw (length-append, n₂) in
+    let n₄ : length p₄ ≡ 488 = rw (length-append, n₃) in
+    rw (put-then l 0 (length records) records (replicate (480 - length records) 0) (omega arith) (zero-add _), put-then l 0 480 p₁ (u16Bytes b) (omega arith) (omega arith), put-then l 0 482 p₂ (u16Bytes (countOf records)) (omega arith) (omega arith), put-then l 0 484 p₃ (u32Bytes 1) (omega arith) (omega arith), put-then l 0 488 p₄ (replicate 20 0) (omega arith) (omega arith))
+    (simp append-assoc)
+
+-- ---- the sums after it
+
+body-first : (l : List ℕ) (body : List ℕ) → length body ≡ 508 → take 508 (put l 0 body) ≡ body
+unfolding put
+body-first l body h = take-at body _ 508 h
+
+pub sums-put : (l : List ℕ) (b : ℕ) (records : List ℕ) → length l ≡ 512 → length records ≤ 480 → let m = put l 0 (blockBody b records) in put m 508 (u16Bytes (sumA m) ++ u16Bytes (sumB m)) ≡ block b records
+unfolding block withSums
+sums-put l b records size h =
+    let body = blockBody b records in
+    let n = length-body b records h in
+    let sums = same-sums (put l 0 body) body (body-first l body n ∙ sym (take-all 508 body (omega arith))) in
+    let s = u16Bytes (sumA body) ++ u16Bytes (sumB body) in
+    rw (sums .0, sums .1, put-then l 0 508 body s (omega arith) (omega arith))
+    (put-whole l (body ++ s) (rw length-append (omega arith)))
+
+-- ---- block by block
+
+take-min : (n : ℕ) (l : List ℕ) → take (min n (length l)) l ≡ take n l
+take-min n l = go (decLe n (length l))
+  where
+    go : Dec (n ≤ length l) → take (min n (length l)) l ≡ take n l
+    go (yes h) = let e : min n (length l) ≡ n = omega arith in rw e
+    go (no h) =
+        let e : min n (length l) ≡ length l = omega arith in
+        rw (e, take-length l, take-all n l (omega arith))
+
+-- a block's records where they end at 480 bytes or with the last record
+pub block-part : (records : List ℕ) (from to : ℕ) → to ≡ min (from + 480) (length records) → from ≤ length records → take (to - from) (drop from records) ≡ take 480 (drop from records)
+block-part records from to e h =
+    let n = length-drop from records in
+    let i : to - from ≡ min 480 (length (drop from records)) = rw n (omega arith) in
+    rw i (take-min 480 (drop from records))
+
+-- the first b blocks of the file stand at the front of the room
+pub record Written (records room₀ room : List ℕ) (b : ℕ) : Type 0 where
+  pub blocks : List ℕ
+  pub within : b ≤ blocksNeeded records
+  pub size : length blocks ≡ 512 * b
+  pub same : length room ≡ length room₀
+  pub here : room ≡ put room₀ 0 blocks
+  pub rest : fileOf records ≡ blocks ++ blocksFrom (blocksNeeded records - b) b (drop (480 * b) records)
+
+module _ (records room₀ : List ℕ) where
+  pub none-written : Written records room₀ room₀ 0
+  unfolding fileOf
+  none-written =
+      let e : blocksNeeded records - 0 ≡ blocksNeeded records = omega arith in
+      record { blocks = []; within = omega arith; size = omega arith; same = refl; here = sym (put-none room₀ 0); rest = rw e }
+
+  pub one-more-written : (c : ℕ) {room after : List ℕ} {b : ℕ} → length records ≡ 32 * c → 512 * blocksNeeded records ≤ length room₀ → b < blocksNeeded records → after ≡ put room (512 * b) (block b (take 480 (drop (480 * b) records))) → Written records room₀ room b → Written records room₀ after (b + 1)
+  unfolding blocksFrom
+  one-more-written c {room} {after} {b} long fits h e w =
+      let mine = take 480 (drop (480 * b) records) in
+      let n : length mine ≡ 32 * min 15 (c - 15 * b) = rw (length-take, length-drop) (omega arith) in
+      let s = block-length b (min 15 (c - 15 * b)) mine n (omega arith) in
+      let ws = w .size in
+      let row : put room (512 * b) (block b mine) ≡ put room₀ 0 (w .blocks ++ block b mine) = rw (w .here) (put-then room₀ 0 (512 * b) (w .blocks) (block b mine) (omega arith) (omega arith)) in
+      let total : length (w .blocks ++ block b mine) ≡ 512 * (b + 1) = rw length-append (omega arith) in
+      let step : blocksNeeded records - b ≡ suc (blocksNeeded records - (b + 1)) = omega arith in
+      let later : 480 * b + 480 ≡ 480 * (b + 1) = omega arith in
+      record {
+        blocks = w .blocks ++ block b mine;
+        within = omega arith;
+        size = total;
+        same = ap length (e ∙ row) ∙ put-length room₀ 0 _ (omega arith);
+        here = e ∙ row;
+        rest = rw (step, drop-drop 480 (480 * b) records, later) at (w .rest) ∙ sym (append-assoc (w .blocks) (block b mine) _);
+      }
+
+  pub all-written : {room : List ℕ} {b : ℕ} → blocksNeeded records ≤ b → Written records room₀ room b → room ≡ put room₀ 0 (fileOf records)
+  unfolding blocksFrom
+  all-written {room} {b} h w =
+      let e : blocksNeeded records - b ≡ 0 = omega arith in
+      let f : fileOf records ≡ w .blocks = rw (e, append-nil) at (w .rest) in
+      rw f (w .here)

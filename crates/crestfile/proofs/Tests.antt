@@ -1,0 +1,28 @@
+-- Tests as facts: a test of two tests holds exactly when the facts of both do.
+use Prim.Native.Nat.{ℕ, _≤_}
+use mathlib.Core.Bool.{Bool, true, false, _&&_, _||_, and-eq-true-iff}
+use mathlib.Core.Logic.{_↔_}
+use mathlib.Core.Path.{_≡_, refl, sym}
+use borrow.Author.Tests.{eqb-true, eq-eqb, leb-true, le-leb}
+use lib.Dec.{leb, eqb}
+
+pub eq-test : (m n : ℕ) → (eqb m n ≡ true) ↔ (m ≡ n)
+eq-test m n = (eqb-true m n, eq-eqb m n)
+
+pub le-test : (m n : ℕ) → (leb m n ≡ true) ↔ (m ≤ n)
+le-test m n = (leb-true m n, le-leb m n)
+
+pub both-tests : {a b : Bool} {P Q : Type 0} → ((a ≡ true) ↔ P) → ((b ≡ true) ↔ Q) → ((a && b) ≡ true) ↔ (P × Q)
+both-tests {a} {b} p q = (
+  λ e. let h = and-eq-true-iff a b .0 e in (p .0 (h .0), q .0 (h .1)),
+  λ h. and-eq-true-iff a b .1 (p .1 (h .0), q .1 (h .1)),
+)
+
+pub either-test : {P : Type 0} (a b : Bool) → (a ≡ true → P) → (b ≡ true → P) → (a || b) ≡ true → P
+either-test true b f g e = f refl
+either-test false b f g e = g e
+
+pub same-test : (a b : Bool) → ((a ≡ true) ↔ (b ≡ true)) → a ≡ b
+same-test true b h = sym (h .0 refl)
+same-test false true h = h .1 refl
+same-test false false h = refl

@@ -1,0 +1,89 @@
+-- `crestfile::check::check_blocks` meets its contract: the rules of the length, then of all sums, then of all fields.
+use Prim.Native.Nat.{ℕ, _≤_}
+use mathlib.Core.List.{List, [], _∷_}
+use mathlib.Core.Path.{_≡_, sym, _∙_}
+use native.Mathlib.Omega.{arith}
+use borrow.Author.Needs.{needs}
+use lib.ListN.{length}
+use Rattle.model.specs.declared.Outcome.the-variants.{Done}
+use Rattle.model.specs.Records.{blockCount}
+use Rattle.model.specs.Refusals.{Rule, rule₀, verdict, forEach, byteCount}
+use Rattle.model.specs.Acceptance.{lengthFits, sumRules, blocksRules}
+use Rattle.model.proofs.Verdict.{done→all, verdict-after}
+use Rattle.crestfile.proofs.ForEach.{holds-one}
+use Rattle.crestfile.proofs.Crest.{fits→sized}
+use Rattle.crestfile.proofs.Orders.{refused-before}
+use Rattle.crestfile.proofs.check.check_blocks.Statement.{statement}
+use Rattle.crestfile.proofs.check.check_blocks.Tie as tie
+
+abbrev lengthRules : List ℕ → List Rule
+lengthRules file = rule₀ byteCount (lengthFits (length file)) ∷ []
+
+abbrev sums : List ℕ → List Rule
+sums file = forEach (sumRules file) (blockCount file) 0
+
+passed : (c : tie.After-enum-told) → verdict (lengthRules (c .before .before .before .before .args .file .now)) ≡ Done
+passed c = sym (c .before .before .check-length .ensures) ∙ c .enum-told .given .1
+
+not-longer : (c : tie.After-enum-told) → length (c .before .before .before .before .args .file .now) ≤ 2048
+not-longer c =
+    let file = c .before .before .before .before .args .file .now in
+    omega (arith, fits→sized (length file) (holds-one (done→all (lengthRules file) (passed c))))
+
+check-length-requires : tie.Need-check-length-requires
+check-length-requires c κs = search needs
+
+enum-known-length : tie.Need-enum-known-length
+enum-known-length c = search needs
+
+returns : tie.Need-returns
+unfolding blocksRules
+returns c =
+    let l = c .before .before .before in
+    let file = l .before .before .args .file .now in
+    sym (refused-before (lengthRules file) _ (sym (l .check-length .ensures) ∙ c .before .length .given .1))
+
+enum-told : tie.Need-enum-told
+enum-told c = search needs
+
+check-sums-requires : tie.Need-check-sums-requires
+check-sums-requires c κs = not-longer c
+
+enum-known-sums : tie.Need-enum-known-sums
+enum-known-sums c = search needs
+
+returns-2 : tie.Need-returns-2
+unfolding blocksRules
+returns-2 c =
+    let s = c .before .before .before in
+    let file = s .before .before .before .before .before .args .file .now in
+    sym (verdict-after (lengthRules file) _ (passed (s .before)) ∙ refused-before (sums file) _ (sym (s .check-sums .ensures) ∙ c .before .sums .given .1))
+
+enum-told-2 : tie.Need-enum-told-2
+enum-told-2 c = search needs
+
+check-fields-requires : tie.Need-check-fields-requires
+check-fields-requires c κs = not-longer (c .before .before .before)
+
+returns-3 : tie.Need-returns-3
+unfolding blocksRules
+returns-3 c =
+    let s = c .before .before .before in
+    let file = s .before .before .before .before .before .args .file .now in
+    c .check-fields .ensures
+    ∙ sym (verdict-after (lengthRules file) _ (passed (s .before)) ∙ verdict-after (sums file) _ (sym (s .check-sums .ensures) ∙ c .before .enum-told2 .given .1))
+
+pub check-blocks-spec : {M : Type 1} → statement M
+check-blocks-spec =
+    tie.close
+    (tie.spec
+    check-length-requires
+    enum-known-length
+    returns
+    enum-told
+    check-sums-requires
+    enum-known-sums
+    returns-2
+    enum-told-2
+    check-fields-requires
+    returns-3)

@@ -1,0 +1,124 @@
+// The refusals of a crest file by its bytes, in their order: its length, its blocks, its records.
+use crate::block::fields_fit;
+use crate::block::sums_agree;
+use crate::record::check_record;
+use crate::record::refused;
+use model::Outcome;
+ghost use mathlib.Core.Bool.{true};
+ghost use mathlib.Core.List.{[], _∷_};
+ghost use mathlib.Core.Path.{_≡_};
+ghost use Prim.Native.Nat.{_+_, _≤_};
+ghost use lib.ListN.{length};
+ghost use Rattle.model.specs.Records.{part, blockCount, recordBytes, countOf, recordOf};
+ghost use Rattle.model.specs.Refusals.{rule₀, verdict, forEach, byteCount};
+ghost use Rattle.model.specs.Acceptance.{lengthFits, sumRules, fieldRules, blocksRules, recordRules};
+ghost use Rattle.model.specs.Writer.{countFits};
+
+// 1: a crest is 512, 1024, 1536 or 2048 bytes long.
+pub fn check_length(len: usize) -> Outcome
+    ensures { λ o. ⌜ o ≡ verdict (rule₀ byteCount (lengthFits len) ∷ []) ⌝ }
+{
+    match len {
+        512 | 1024 | 1536 | 2048 => Outcome::Done,
+        _ => refused(1, 0),
+    }
+}
+
+// n bytes from `at` on.
+fn part_at(bytes: &[u8], at: usize, n: usize) -> &[u8]
+    requires { ⌜ at + n ≤ length (now bytes) ⌝ }
+    ensures { λ r. ⌜ now r ≡ part (now (bytes .entry)) at n ⌝ }
+{
+    &bytes[at..at + n]
+}
+
+// 2: the sums of every block.
+pub fn check_sums(file: &[u8]) -> Outcome
+    requires { ⌜ length (now file) ≤ 2048 ⌝ }
+    ensures { λ o. ⌜ o ≡ verdict (forEach (sumRules (now (file .entry))) (blockCount (now (file .entry))) 0) ⌝ }
+{
+    let n = file.len() / 512;
+    let mut b = 0;
+    while b < n {
+        if !sums_agree(part_at(file, 512 * b, 512)) {
+            return refused(2, b as u32);
+        }
+        b += 1;
+    }
+    Outcome::Done
+}
+
+// 3: the fields of every block, and zeros where nothing is in use.
+pub fn check_fields(file: &[u8]) -> Outcome
+    requires { ⌜ length (now file) ≤ 2048 ⌝ }
+    ensures { λ o. ⌜ o ≡ verdict (forEach (fieldRules (now (file .entry))) (blockCount (now (file .entry))) 0) ⌝ }
+{
+    let n = file.len() / 512;
+    let mut b = 0;
+    while b < n {
+        if !fields_fit(n, b, part_at(file, 512 * b, 512)) {
+            return refused(3, b as u32);
+        }
+        b += 1;
+    }
+    Outcome::Done
+}
+
+// 1 to 3: of any bytes.
+pub fn check_blocks(file: &[u8]) -> Outcome
+    ensures { λ o. ⌜ o ≡ verdict (blocksRules (now (file .entry))) ⌝ }
+{
+    match check_length(file.len()) {
+        Outcome::Refused(length) => return Outcome::Refused(length),
+        Outcome::Done => {}
+    }
+    match check_sums(file) {
+        Outcome::Refused(sums) => return Outcome::Refused(sums),
+        Outcome::Done => {}
+    }
+    check_fields(file)
+}
+
+// How many records are in use in a file whose blocks are accepted: 15 in each block but the last.
+pub fn record_count(file: &[u8]) -> usize
+    requires { ⌜ verdict (blocksRules (now file)) ≡ Outcome.Done ⌝ }
+    ensures { λ r. ⌜ r ≡ countOf (recordBytes (now (file .entry))) ⌝ }
+{
+    let last = file.len() / 512 - 1;
+    15 * last + fields::u16_at(file, 512 * last + 482) as usize
+}
+
+// 4 to 7: every record of a file whose blocks are accepted, where it stands in the file.
+pub fn check_records(file: &[u8]) -> Outcome
+    requires { ⌜ verdict (blocksRules (now file)) ≡ Outcome.Done ⌝ }
+    ensures { λ o. ⌜ o ≡ verdict (forEach (λ r. recordRules (recordOf (recordBytes (now (file .entry))) r) r) (countOf (recordBytes (now (file .entry)))) 0) ⌝ }
+{
+    let n = record_count(file);
+    let mut r = 0;
+    while r < n {
+        let at = 512 * (r / 15) + 32 * (r % 15);
+        match check_record(part_at(file, at, 32), r as u32) {
+            Outcome::Refused(x) => return Outcome::Refused(x),
+            Outcome::Done => {}
+        }
+        r += 1;
+    }
+    Outcome::Done
+}
+
+// 4 to 7: every record of record bytes that are 1 to 60 records.
+pub fn check_record_bytes(records: &[u8]) -> Outcome
+    requires { ⌜ countFits (length (now records)) ≡ true ⌝ }
+    ensures { λ o. ⌜ o ≡ verdict (forEach (λ r. recordRules (recordOf (now (records .entry)) r) r) (countOf (now (records .entry))) 0) ⌝ }
+{
+    let n = records.len() / 32;
+    let mut r = 0;
+    while r < n {
+        match check_record(part_at(records, 32 * r, 32), r as u32) {
+            Outcome::Refused(x) => return Outcome::Refused(x),
+            Outcome::Done => {}
+        }
+        r += 1;
+    }
+    Outcome::Done
+}

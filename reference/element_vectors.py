@@ -44,6 +44,21 @@ def edge_shapes():
                     yield kind, length, -size
 
 
+def half_shapes():
+    """Spirals of lengths and radii that are powers of two, on which the angle t can be an exact half."""
+    for length in 2**16, 2**18:
+        for kind in ENTRY, EXIT:
+            yield kind, length, 2**22
+            yield kind, length, -(2**22)
+
+
+def half_stations(kind, length):
+    """Stations at which ONE·l² / (2·R·L) is a whole number and a half."""
+    unit = 16 if length == 2**16 else 32
+    lengths = [unit * odd for odd in range(1, 16, 2)]
+    return [length - l if kind == EXIT else l for l in lengths]
+
+
 def random_shape(rng):
     kind = rng.choice((LINE, ARC, ENTRY, EXIT, ARC, ENTRY, EXIT))
     length = round(LONGEST ** rng.random()) if rng.random() < 0.5 else rng.randint(1, LONGEST)
@@ -63,10 +78,10 @@ def stations(rng, length):
 def elements(rng):
     edges = list(edge_directions())
     corners = [(x, y) for x in (-FRAME, FRAME) for y in (-FRAME, FRAME)]
-    shapes = list(edge_shapes())
+    shapes = list(half_shapes()) + list(edge_shapes())
     for i in range(BLOCKS):
         shape = shapes[i // 2] if i < 2 * len(shapes) else random_shape(rng)
-        direction = edges[i % len(edges)] if i % 2 == 0 else random_crests.random_unit(rng)
+        direction = edges[i // 2 % len(edges)] if i % 2 == 0 else random_crests.random_unit(rng)
         place = rng.choice(corners) if i % 5 == 0 else (rng.randint(-FRAME, FRAME), rng.randint(-FRAME, FRAME))
         kind, length, radius = shape
         yield Element(kind, length, *place, *direction, radius)
@@ -75,7 +90,9 @@ def elements(rng):
 def block(rng, element):
     record = crest.record_of(element)
     assert crest.record_fault(record) == 0, element
-    rows = [ROW.pack(s, *crest.position(element, s), *crest.direction(element, s)) for s in stations(rng, element.length)]
+    halves = (element.kind, element.length, element.radius) in set(half_shapes())
+    wanted = half_stations(element.kind, element.length) if halves else stations(rng, element.length)
+    rows = [ROW.pack(s, *crest.position(element, s), *crest.direction(element, s)) for s in wanted]
     return record + b"".join(rows)
 
 

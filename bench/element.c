@@ -5,7 +5,7 @@
 #include <stdlib.h>
 #include <string.h>
 
-int64_t element_positions(uint8_t kind, uint32_t length, int32_t x, int32_t y, int32_t c, int32_t s, int32_t radius, uint64_t count);
+int64_t element_positions(const uint8_t *record, size_t length, uint32_t count);
 
 typedef __int128 whole;
 
@@ -57,16 +57,35 @@ __attribute__((noinline)) static void position(const element *e, int64_t s, int6
     *y = e->y + (int64_t)near(e->s * u + e->c * v, ONE);
 }
 
-static int64_t plain_positions(const element *e, uint64_t count)
+static int64_t plain_positions(const element *e, uint32_t count)
 {
     int64_t sum = 0, s = 0;
     for (; count > 0; count--) {
         int64_t x, y;
         position(e, s, &x, &y);
-        sum ^= x ^ (y >> 3);
+        sum += x + 2 * y;
         s = s < e->length ? s + 1 : 0;
     }
     return sum;
+}
+
+static void put_u32(uint8_t *bytes, uint32_t n)
+{
+    for (int i = 0; i < 4; i++)
+        bytes[i] = n >> 8 * i;
+}
+
+/* the element's record of 32 bytes */
+static void put_record(uint8_t *record, const element *e)
+{
+    memset(record, 0, 32);
+    record[0] = e->kind;
+    put_u32(record + 4, e->length);
+    put_u32(record + 8, e->x);
+    put_u32(record + 12, e->y);
+    put_u32(record + 16, e->c);
+    put_u32(record + 20, e->s);
+    put_u32(record + 24, e->radius);
 }
 
 int main(int argc, char **argv)
@@ -74,11 +93,13 @@ int main(int argc, char **argv)
     if (argc != 4)
         return 2;
     int kind = atoi(argv[2]);
-    uint64_t count = strtoull(argv[3], 0, 10);
+    uint32_t count = strtoul(argv[3], 0, 10);
     /* a direction of unit length, and a curve to the right */
     element e = {kind, 200000, 1000, -2000, 858993459, 644245094, kind == LINE ? 0 : -1000000};
+    uint8_t record[32];
+    put_record(record, &e);
     int64_t sum = strcmp(argv[1], "crate") == 0
-        ? element_positions(e.kind, e.length, e.x, e.y, e.c, e.s, e.radius, count)
+        ? element_positions(record, sizeof record, count)
         : plain_positions(&e, count);
     printf("%lld\n", (long long)sum);
     return 0;

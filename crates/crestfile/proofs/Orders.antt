@@ -7,7 +7,7 @@ use native.Mathlib.Omega.{arith}
 use Rattle.model.specs.declared.Refusal.{Refusal}
 use Rattle.model.specs.declared.Outcome.the-variants.{Done, Refused}
 use Rattle.model.specs.Refusals.{Reason, Rule, rule, refusal, orRefused, verdict, forEach}
-use Rattle.model.proofs.Verdict.{verdict-after}
+use Rattle.model.proofs.Verdict.{verdict-after, refused-before}
 
 -- ---- one rule
 
@@ -18,17 +18,6 @@ one-done why place h = rw h
 pub one-refused : (why : Reason) (place : ℕ) {b : Bool} → b ≡ false → verdict (rule why place b ∷ []) ≡ Refused (refusal why place)
 unfolding verdict orRefused
 one-refused why place h = rw h
-
--- ---- two parts
-
-pub refused-before : (rs ss : List Rule) {x : Refusal} → verdict rs ≡ Refused x → verdict (rs ++ ss) ≡ Refused x
-unfolding verdict orRefused
-refused-before [] ss e = let z : _≡_ {A = ℕ} 0 1 = cc in absurd (omega arith)
-refused-before (r ∷ rs) ss {x} e = go (r .holds) (refused-before rs ss) e
-  where
-    go : (b : Bool) → (verdict rs ≡ Refused x → verdict (rs ++ ss) ≡ Refused x) → orRefused b (r .why) (r .place) (verdict rs) ≡ Refused x → orRefused b (r .why) (r .place) (verdict (rs ++ ss)) ≡ Refused x
-    go true rest e = rest e
-    go false rest e = e
 
 -- ---- the places one after the other
 

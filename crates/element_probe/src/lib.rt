@@ -1,22 +1,35 @@
 // Exported for measurement: many stations of one element, which is prepared once.
 use elements::Prepared;
-use model::Kind;
-use model::KindByte;
-ghost use Prim.Native.Nat.{_≤_};
+use model::Outcome;
+ghost use mathlib.Core.Path.{_≡_};
+ghost use Prim.Native.Nat.{_^_, _<_, _≤_};
+ghost use lib.IntN.{natAbs, _+ℤ_};
+ghost use Rattle.model.specs.Series.{positionOn};
 ghost use Rattle.elements.specs.Prepared.{Ready};
+ghost use Rattle.element_probe.specs.Sums.{mixed, nextOn, sumFrom, sumOver};
 
-// The position at s, mixed into a sum.
+// The next station, from the element's end again to its start.
+fn next_on(length: u64, s: u64) -> u64
+    ensures { λ r. ⌜ r ≡ nextOn length s ⌝ }
+{
+    if s < length { s + 1 } else { 0 }
+}
+
+// X + 2Y of the position at s, added to a sum.
 fn add_position(p: Prepared, s: u64, sum: i64) -> i64
     requires { ⌜ Ready p ⌝ }
     requires { ⌜ s ≤ p .element .length ⌝ }
+    requires { ⌜ natAbs sum < 2 ^ 62 ⌝ }
+    ensures { λ r. ⌜ r ≡ sum +ℤ mixed (positionOn (p .element) s) ⌝ }
 {
     let at = elements::position(p, s);
-    sum ^ at.x ^ (at.y >> 3)
+    sum + (at.x + 2 * at.y)
 }
 
-// `count` stations from 0 on, from the element's end again to its start.
-fn positions(p: Prepared, count: u64) -> i64
+// `count` stations from 0 on.
+fn positions(p: Prepared, count: u32) -> i64
     requires { ⌜ Ready p ⌝ }
+    ensures { λ r. ⌜ r ≡ sumFrom (p .element) count 0 ⌝ }
 {
     let e = p.element;
     let length = e.length;
@@ -25,49 +38,22 @@ fn positions(p: Prepared, count: u64) -> i64
     let mut left = count;
     while left > 0 {
         sum = add_position(p, s, sum);
-        if s < length {
-            s += 1;
-        } else {
-            s = 0;
-        }
+        s = next_on(length, s);
         left -= 1;
     }
     sum
 }
 
-fn of_kind(
-    kind: Kind,
-    length: u32,
-    x: i32,
-    y: i32,
-    c: i32,
-    s: i32,
-    radius: i32,
-    count: u64,
-) -> i64 {
-    let e = elements::acceptance::element(kind, length, x, y, c, s, radius);
-    if elements::acceptance::accepted(e) {
-        positions(elements::prepare(e), count)
-    } else {
-        0
-    }
-}
-
-// The sum of `count` positions on an element with these numbers; 0 where it is not accepted.
+// The sum over `count` positions on the element of a record; 0 where the bytes are no accepted record.
 #[no_mangle]
-pub extern "C" fn element_positions(
-    kind: u8,
-    length: u32,
-    x: i32,
-    y: i32,
-    c: i32,
-    s: i32,
-    radius: i32,
-    count: u64,
-) -> i64 {
-    match model::kind_of(kind) {
-        KindByte::Known(k) => of_kind(k, length, x, y, c, s, radius, count),
-        KindByte::Damaged => 0,
-        KindByte::Later => 0,
+pub extern "C" fn element_positions(rec: &[u8], count: u32) -> i64
+    ensures { λ r. ⌜ r ≡ sumOver (now (rec .entry)) count ⌝ }
+{
+    if rec.len() != 32 {
+        return 0;
+    }
+    match crestfile::record::check_record(rec, 0) {
+        Outcome::Refused(_) => 0,
+        Outcome::Done => positions(elements::prepare(crestfile::record::element(rec)), count),
     }
 }

@@ -2,14 +2,11 @@
 // how many differ. The file is blocks of 192 bytes: a record of 32, and 8 rows of 20 (station, X, Y, Tx, Ty).
 use elements::Placement;
 use elements::Prepared;
-use model::Element;
-use model::Kind;
-use model::KindByte;
+use model::Outcome;
 ghost use mathlib.Core.Path.{_≡_};
 ghost use Prim.Native.Nat.{_+_, _≤_};
 ghost use lib.ListN.{length};
 ghost use Rattle.elements.specs.Prepared.{Ready};
-ghost use Rattle.elements.specs.Read.{Read};
 
 const BLOCK: usize = 192;
 
@@ -68,42 +65,15 @@ fn rows_differ(b: &[u8], p: Prepared) -> u64
     differ
 }
 
-fn element_at(b: &[u8], kind: Kind) -> Element
-    requires { ⌜ length (now b) ≡ 192 ⌝ }
-    ensures { λ r. ⌜ Read r ⌝ }
-{
-    elements::acceptance::element(
-        kind,
-        fields::u32_at(b, 4),
-        fields::i32_at(b, 8),
-        fields::i32_at(b, 12),
-        fields::i32_at(b, 16),
-        fields::i32_at(b, 20),
-        fields::i32_at(b, 24),
-    )
-}
-
-// How many of a block's rows differ, where its element has the kind; all of them where the element is not accepted.
-fn element_differs(b: &[u8], kind: Kind) -> u64
-    requires { ⌜ length (now b) ≡ 192 ⌝ }
-    ensures { λ r. ⌜ r ≤ 8 ⌝ }
-{
-    let e = element_at(b, kind);
-    if elements::acceptance::accepted(e) {
-        rows_differ(b, elements::prepare(e))
-    } else {
-        8
-    }
-}
-
+// How many of a block's rows differ; all of them where its record is refused.
 fn block_differs(b: &[u8]) -> u64
     requires { ⌜ length (now b) ≡ 192 ⌝ }
     ensures { λ r. ⌜ r ≤ 8 ⌝ }
 {
-    match model::kind_of(b[0]) {
-        KindByte::Known(kind) => element_differs(b, kind),
-        KindByte::Damaged => 8,
-        KindByte::Later => 8,
+    let rec = &b[0..32];
+    match crestfile::record::check_record(rec, 0) {
+        Outcome::Refused(_) => 8,
+        Outcome::Done => rows_differ(b, elements::prepare(crestfile::record::element(rec))),
     }
 }
 

@@ -17,7 +17,8 @@ use Rattle.model.specs.declared.Element.{Element}
 use Rattle.model.specs.Rounding.{ONE, near}
 use Rattle.model.specs.Series.{squareOf, fromAnchor, signedBy, angleOf, lengthAt, angleAt}
 use Rattle.model.specs.Bound.{Fraction, fraction, turnOf}
-use Rattle.model.specs.Accepted.{Accepted, RadiusFits}
+use Rattle.model.specs.Accepted.{Accepted}
+use Rattle.model.proofs.Accepted.{RadiusFits, numbers}
 use Rattle.elements.proofs.Errors.{sized, plain, 2′, ONE′, _⊞_, _⊠_, _·_, error-by, twice-error, 0≤-near, near-within}
 
 -- a turn of m/q, at most a half
@@ -145,12 +146,12 @@ angleAt-is e s = angleOf-is (e .kind) (e .radius) (e .length) (lengthAt e s)
 module _ (e : Element) (a : Accepted e) (s : ℕ) (h : s ≤ e .length) where
   pub lengthAt-within : lengthAt e s ≤ 500000
   unfolding lengthAt
-  lengthAt-within = le-trans (fromAnchor-within (e .kind) (e .length) s h) (a .longest)
+  lengthAt-within = le-trans (fromAnchor-within (e .kind) (e .length) s h) (numbers a .longest)
 
   pub turnAt-turn : Turn (turnAt e s)
   unfolding lengthAt
   turnAt-turn =
-      turnOf-turn (e .kind) (e .radius) (e .length) (lengthAt e s) (a .shortest) (a .radius) (fromAnchor-within (e .kind) (e .length) s h)
+      turnOf-turn (e .kind) (e .radius) (e .length) (lengthAt e s) (numbers a .shortest) (numbers a .radius) (fromAnchor-within (e .kind) (e .length) s h)
 
   pub angleAt-within : natAbs (angleAt e s) ≤ 2 ^ 29
   angleAt-within = rw angleAt-is (angle-within turnAt-turn)

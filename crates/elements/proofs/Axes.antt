@@ -8,6 +8,7 @@ use mir.Syntax.{w64}
 use mir.Val.{SFits}
 use Rattle.integers.proofs.Ring.{neg-*ℤ}
 use Rattle.integers.proofs.Abs.{natAbs-neg}
+use Rattle.model.proofs.Accepted.{numbers}
 use Rattle.model.specs.declared.Kind.{Kind}
 use Rattle.model.specs.declared.Kind.the-variants.{Line, Arc, EntrySpiral, ExitSpiral}
 use Rattle.model.specs.declared.Element.{Element}
@@ -89,10 +90,10 @@ module _ (p : Prepared) (y : Ready p) where
   axis-within n c i l = omega (arith, ap natAbs i, natAbs-sign n c, l)
 
   c-within : natAbs (e .c) ≤ ONE
-  c-within = unit-within (e .c) (e .s) (y .accepted .unit)
+  c-within = unit-within (e .c) (e .s) (numbers (y .accepted) .unit)
 
   s-within : natAbs (e .s) ≤ ONE
-  s-within = unit-within′ (e .c) (e .s) (y .accepted .unit)
+  s-within = unit-within′ (e .c) (e .s) (numbers (y .accepted) .unit)
 
   pub ux-within : natAbs (p .ux) ≤ ONE
   ux-within = axis-within back (e .c) ux-is c-within
@@ -121,10 +122,10 @@ module _ (p : Prepared) (y : Ready p) where
 
     module _ (n : Near r) where
       pub point-turnable-x : Turnable (e .x) (p .ux) (r .along) (p .vx) (r .aside)
-      point-turnable-x = record { anchor = y .accepted .anchorX; first = ux-within; second = vx-within; along = n .along; aside = n .aside }
+      point-turnable-x = record { anchor = numbers (y .accepted) .anchorX; first = ux-within; second = vx-within; along = n .along; aside = n .aside }
 
       pub point-turnable-y : Turnable (e .y) (p .uy) (r .along) (p .vy) (r .aside)
-      point-turnable-y = record { anchor = y .accepted .anchorY; first = uy-within; second = vy-within; along = n .along; aside = n .aside }
+      point-turnable-y = record { anchor = numbers (y .accepted) .anchorY; first = uy-within; second = vy-within; along = n .along; aside = n .aside }
 
   -- ---- the direction
 

@@ -16,7 +16,8 @@ use Rattle.model.specs.declared.Point.{Point}
 use Rattle.model.specs.Rounding.{ONE, near}
 use Rattle.model.specs.Series.{Factor, Series, arcSeries, spiralSeries, cosineFactor, sineFactor, F, squareOf, seriesAlong, seriesAside, cosine, sine, fromAnchor, signedBy, angleOf, localOf, directionOf, lengthAt, angleAt, localAt, directionAt, turned, movedBy, positionOn, tangentOn}
 use Rattle.model.specs.Stations.{distanceSq}
-use Rattle.model.specs.Accepted.{Accepted, RadiusFits}
+use Rattle.model.specs.Accepted.{Accepted}
+use Rattle.model.proofs.Accepted.{RadiusFits, numbers}
 use Rattle.model.proofs.Rounding.{near-mono, near-multiple}
 use Rattle.elements.specs.Signs.{withSign}
 use Rattle.elements.specs.Extent.{Extent}
@@ -149,7 +150,7 @@ module _ (radius : ℤ) (length l : ℕ) (shortest : 1 ≤ length) (h : l ≤ le
 pub angle-within : {e : Element} → Accepted e → {s : ℕ} → s ≤ e .length → natAbs (angleAt e s) ≤ 2 ^ 29
 unfolding angleAt lengthAt
 angle-within {e} a {s} h =
-    angle-of-within (e .radius) (e .length) (fromAnchor (e .kind) (e .length) s) (a .shortest) (fromAnchor-within (e .kind) (e .length) s h) (e .kind) (a .radius)
+    angle-of-within (e .radius) (e .length) (fromAnchor (e .kind) (e .length) s) (numbers a .shortest) (fromAnchor-within (e .kind) (e .length) s h) (e .kind) (numbers a .radius)
 
 module _ (t : ℤ) (h : natAbs t ≤ 2 ^ 29) where
   local-along-within : (k : Kind) (l : ℕ) → natAbs (localOf k l t .along) ≤ 100 * l
@@ -219,9 +220,9 @@ pub extent : {e : Element} → Accepted e → {s : ℕ} → s ≤ e .length → 
 unfolding localAt directionAt lengthAt positionOn tangentOn turned movedBy
 extent {e} a {s} h =
     let t = angle-within a h in
-    let l : fromAnchor (e .kind) (e .length) s ≤ 500000 = le-trans (fromAnchor-within (e .kind) (e .length) s h) (a .longest) in
-    let c = unit-within (e .c) (e .s) (a .unit) in
-    let d = unit-within′ (e .c) (e .s) (a .unit) in
+    let l : fromAnchor (e .kind) (e .length) s ≤ 500000 = le-trans (fromAnchor-within (e .kind) (e .length) s h) (numbers a .longest) in
+    let c = unit-within (e .c) (e .s) (numbers a .unit) in
+    let d = unit-within′ (e .c) (e .s) (numbers a .unit) in
     let w = localAt e s in
     let g = directionAt e s in
     let u : natAbs (w .along) ≤ 50000000 = le-trans (local-along-within (angleAt e s) t (e .kind) (fromAnchor (e .kind) (e .length) s)) (omega arith) in
@@ -230,8 +231,8 @@ extent {e} a {s} h =
     let n = direction-aside-within (angleAt e s) t (e .kind) in
     let moved : (x y : ℤ) → natAbs x ≤ 200000000 → natAbs y ≤ 62500000 → natAbs (x +ℤ y) ≤ 262500000
     = λ x y hx hy. omega (arith, sum x y, parts x, parts y, parts (x +ℤ y)) in
-    let px = moved (e .x) (near (e .c *ℤ w .along -ℤ e .s *ℤ w .aside) ONE) (a .anchorX) (near-turn (e .c) (w .along) (e .s) (w .aside) 50000000 12500000 c d u v .0) in
-    let py = moved (e .y) (near (e .s *ℤ w .along +ℤ e .c *ℤ w .aside) ONE) (a .anchorY) (near-turn (e .s) (w .along) (e .c) (w .aside) 50000000 12500000 d c u v .1) in
+    let px = moved (e .x) (near (e .c *ℤ w .along -ℤ e .s *ℤ w .aside) ONE) (numbers a .anchorX) (near-turn (e .c) (w .along) (e .s) (w .aside) 50000000 12500000 c d u v .0) in
+    let py = moved (e .y) (near (e .s *ℤ w .along +ℤ e .c *ℤ w .aside) ONE) (numbers a .anchorY) (near-turn (e .s) (w .along) (e .c) (w .aside) 50000000 12500000 d c u v .1) in
     record {
       angle = t;
       along = u;

@@ -11,7 +11,7 @@ pub mod Spacing
 pub mod Signed
 pub mod Widths
 pub mod Extent
+pub mod Ends
 pub mod Steps
 pub mod Preparing
 pub mod Axes
-pub mod Accepting

@@ -9,7 +9,8 @@ use Rattle.model.specs.declared.Kind.the-variants.{Line, Arc, EntrySpiral, Exit
 use Rattle.model.specs.declared.Element.{Element}
 use Rattle.model.specs.Rounding.{ONE, near}
 use Rattle.model.specs.Series.{Series, arcSeries, spiralSeries, Local, seriesAlong, seriesAside, signedBy, angleOf, localOf, fromAnchor, lengthAt, angleAt, localAt}
-use Rattle.model.specs.Accepted.{Accepted, RadiusFits}
+use Rattle.model.specs.Accepted.{Accepted}
+use Rattle.model.proofs.Accepted.{RadiusFits, numbers}
 use Rattle.elements.specs.declared.Prepared.{Prepared}
 use Rattle.elements.specs.Signs.{withSign, signOf}
 use Rattle.elements.specs.Prepared.{divisorOf, backward, preparedOf, Ready}
@@ -26,7 +27,7 @@ ready a = record { accepted = a; prepared = refl }
 -- ---- what a kind says
 
 pub radius-on : {e : Element} (k : Kind) → e .kind ≡ k → Accepted e → RadiusFits k (e .length) (natAbs (e .radius))
-radius-on {e} k h a = subst (λ x. RadiusFits x (e .length) (natAbs (e .radius))) h (a .radius)
+radius-on {e} k h a = subst (λ x. RadiusFits x (e .length) (natAbs (e .radius))) h (numbers a .radius)
 
 pub angle-on : (e : Element) (k : Kind) → e .kind ≡ k → (s : ℕ) → angleOf k (e .radius) (e .length) (fromAnchor k (e .length) s) ≡ angleAt e s
 unfolding angleAt lengthAt
@@ -122,12 +123,12 @@ module _ (p : Prepared) (y : Ready p) where
     arc-half = omega (arith, half-is, arc-divisor)
 
     pub arc-asks : (s ≤ 500000) × (p .half ≤ 10000000) × (1 ≤ p .divisor)
-    arc-asks = omega (arith, y .accepted .longest, y .accepted .shortest, arc-half, arc-divisor, arc-radius)
+    arc-asks = omega (arith, numbers (y .accepted) .longest, numbers (y .accepted) .shortest, arc-half, arc-divisor, arc-radius)
 
     arc-near : withSign (p .negative) (pos arcAngle) ≡ near (withSign (p .negative) (pos (ONE * s))) radius
     arc-near =
         ap₂ (λ (a d : ℕ). withSign (p .negative) (pos ((2 * (ONE * s) + a) / d))) arc-half arc-divisor
-        ∙ arc-quotient (p .negative) (ONE * s) radius sign-at-most (omega (arith, y .accepted .shortest, arc-radius))
+        ∙ arc-quotient (p .negative) (ONE * s) radius sign-at-most (omega (arith, numbers (y .accepted) .shortest, arc-radius))
 
     pub arc-angle-is : withSign (p .negative) (pos arcAngle) ≡ angleAt e s
     unfolding angleOf fromAnchor
@@ -164,16 +165,16 @@ module _ (p : Prepared) (y : Ready p) where
     spiral-square = mul-le-mul {n₁ = l} {m₁ = l} {n₂ = radius} {m₂ = e .length} (omega (arith, o .tightest)) h
 
     spiral-product : radius * e .length ≤ 10000000 * 500000
-    spiral-product = mul-le-mul {n₁ = radius} {m₁ = e .length} {n₂ = 10000000} {m₂ = 500000} (o .widest) (y .accepted .longest)
+    spiral-product = mul-le-mul {n₁ = radius} {m₁ = e .length} {n₂ = 10000000} {m₂ = 500000} (o .widest) (numbers (y .accepted) .longest)
 
     spiral-positive : 1 * 1 ≤ radius * e .length
-    spiral-positive = mul-le-mul {n₁ = 1} {m₁ = 1} {n₂ = radius} {m₂ = e .length} (omega (arith, o .tightest, y .accepted .shortest)) (y .accepted .shortest)
+    spiral-positive = mul-le-mul {n₁ = 1} {m₁ = 1} {n₂ = radius} {m₂ = e .length} (omega (arith, o .tightest, numbers (y .accepted) .shortest)) (numbers (y .accepted) .shortest)
 
     twice : p .divisor ≡ 2 * (radius * e .length)
     twice = o .divisor ∙ mul-assoc 2 radius (e .length)
 
     pub spiral-asks : (l ≤ 500000) × (p .half < 2 ^ 44) × (1 ≤ p .divisor) × (p .divisor < 2 ^ 44) × (l * l ≤ p .divisor)
-    spiral-asks = omega (arith, y .accepted .longest, half-is, twice, spiral-square, spiral-product, spiral-positive)
+    spiral-asks = omega (arith, numbers (y .accepted) .longest, half-is, twice, spiral-square, spiral-product, spiral-positive)
 
     spiral-near : withSign (p .negative) (pos spiralAngle) ≡ near (withSign (p .negative) (pos (ONE * (l * l)))) (p .divisor)
     spiral-near =
@@ -189,7 +190,7 @@ module _ (p : Prepared) (y : Ready p) where
           longest = spiral-asks .0;
           widest =
               magnitude-at-most (p .negative) spiralAngle spiral-angle-near
-              (spiral-angle-within (e .radius) (e .length) l (y .accepted .shortest) h (o .tightest));
+              (spiral-angle-within (e .radius) (e .length) l (numbers (y .accepted) .shortest) h (o .tightest));
           sign = sign-at-most;
         }
 

@@ -15,7 +15,8 @@ use Rattle.model.specs.declared.Kind.the-variants.{Line, Arc, EntrySpiral, Exit
 use Rattle.model.specs.declared.Element.{Element}
 use Rattle.model.specs.Series.{fromAnchor, signedBy, lengthAt}
 use Rattle.model.specs.Bound.{turnOf, exactAlong, exactAside}
-use Rattle.model.specs.Accepted.{Accepted, RadiusFits}
+use Rattle.model.specs.Accepted.{Accepted}
+use Rattle.model.proofs.Accepted.{RadiusFits, numbers}
 use Rattle.elements.proofs.Angle.{fromAnchor-within}
 use Rattle.elements.proofs.Moves.{twice, Turning, Moved, along-moves, aside-moves}
 
@@ -135,4 +136,4 @@ unfolding lengthAt
 exact-moves e a s j h =
     let k = e .kind in
     let l = e .length in
-    both-move (e .radius) l (fromAnchor k l s) (fromAnchor k l (s + j)) j (a .shortest) (fromAnchor-within k l s (omega arith)) (fromAnchor-within k l (s + j) h) (length-apart k l s j h) k (a .radius)
+    both-move (e .radius) l (fromAnchor k l s) (fromAnchor k l (s + j)) j (numbers a .shortest) (fromAnchor-within k l s (omega arith)) (fromAnchor-within k l (s + j) h) (length-apart k l s j h) k (numbers a .radius)

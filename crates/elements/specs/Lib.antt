@@ -3,4 +3,3 @@ pub mod Signs
 pub mod Prepared
 pub mod Reached
 pub mod Extent
-pub mod Read

@@ -14,7 +14,6 @@ ghost use Rattle.elements.specs.Signs.{withSign, signOf};
 ghost use Rattle.elements.specs.Prepared.{divisorOf, backward, preparedOf, Ready};
 ghost use Rattle.elements.specs.Reached.{Turnable, Near, Reached, pointOf, headingOf, placementOf};
 
-pub mod acceptance;
 pub mod rounding;
 mod series;
 mod signs;

@@ -1,15 +1,33 @@
--- An element whose record passes the rules of ranges and direction is accepted, and the other way round.
+-- An accepted element's numbers: what the rules of ranges and direction say of them, as facts.
 use Prim.Native.Nat.{ℕ, _*_, _≤_, _^_}
 use mathlib.Core.Bool.{_&&_}
-use mathlib.Core.Path.{sym, subst}
-use lib.Dec.{T, leb, eqb, leb→le, le→leb, eqb→eq}
+use mathlib.Core.List.{List}
+use mathlib.Core.Path.{_≡_, sym, subst}
+use lib.Dec.{T, leb, leb→le, eqb→eq}
 use lib.IntN.{pos, natAbs, _+ℤ_, _-ℤ_, _*ℤ_}
-use mir.Facts.{and-yes, yes-and}
+use mir.Facts.{and-yes}
 use Rattle.model.specs.declared.Kind.{Kind}
 use Rattle.model.specs.declared.Kind.the-variants.{Line, Arc, EntrySpiral, ExitSpiral}
 use Rattle.model.specs.declared.Element.{Element}
-use Rattle.model.specs.Acceptance.{lengthGood, radiusGood, inFrame, rangesGood, isUnit}
-use Rattle.model.specs.Accepted.{Accepted, RadiusFits}
+use Rattle.model.specs.Acceptance.{longestElement, widest, frame, unitSlack, lengthGood, radiusGood, inFrame, rangesGood, isUnit, elementOf, recordRules}
+use Rattle.model.specs.Accepted.{Accepted}
+use Rattle.model.specs.declared.Outcome.the-variants.{Done}
+use Rattle.model.specs.Refusals.{verdict}
+use Rattle.model.proofs.Verdict.{AllHold, none, more, done→all}
+
+unfoldable pub RadiusFits : Kind → ℕ → ℕ → Type 0
+RadiusFits Line l r = r ≡ 0
+RadiusFits Arc l r = (2 * l ≤ r) × (r ≤ widest)
+RadiusFits EntrySpiral l r = (l ≤ r) × (r ≤ widest)
+RadiusFits ExitSpiral l r = (l ≤ r) × (r ≤ widest)
+
+pub record Numbers (e : Element) : Type 0 where
+  pub shortest : 1 ≤ e .length
+  pub longest : e .length ≤ longestElement
+  pub radius : RadiusFits (e .kind) (e .length) (natAbs (e .radius))
+  pub anchorX : natAbs (e .x) ≤ frame
+  pub anchorY : natAbs (e .y) ≤ frame
+  pub unit : natAbs (e .c *ℤ e .c +ℤ e .s *ℤ e .s -ℤ pos (2 ^ 60)) ≤ unitSlack
 
 between : (a b c d : ℕ) → T (leb a b && leb c d) → (a ≤ b) × (c ≤ d)
 between a b c d t = let g = and-yes (leb a b) (leb c d) t in (leb→le a b (g .0), leb→le c d (g .1))
@@ -17,43 +35,31 @@ between a b c d t = let g = and-yes (leb a b) (leb c d) t in (leb→le a b (g .0
 radius-fits : (k : Kind) (l r : ℕ) → T (radiusGood k l r) → RadiusFits k l r
 unfolding radiusGood RadiusFits
 radius-fits Line l r t = eqb→eq r 0 t
-radius-fits Arc l r t = between (2 * l) r r 10000000 t
-radius-fits EntrySpiral l r t = between l r r 10000000 t
-radius-fits ExitSpiral l r t = between l r r 10000000 t
+radius-fits Arc l r t = between (2 * l) r r widest t
+radius-fits EntrySpiral l r t = between l r r widest t
+radius-fits ExitSpiral l r t = between l r r widest t
 
-pub good→accepted : (e : Element) → T (rangesGood e) → T (isUnit (e .c) (e .s)) → Accepted e
+pub numbers : {e : Element} → Accepted e → Numbers e
 unfolding rangesGood isUnit lengthGood inFrame
-good→accepted e t u =
-    let g = and-yes (lengthGood (e .length) && radiusGood (e .kind) (e .length) (natAbs (e .radius))) (inFrame (e .x) (e .y)) t in
+numbers {e} a =
+    let g = and-yes (lengthGood (e .length) && radiusGood (e .kind) (e .length) (natAbs (e .radius))) (inFrame (e .x) (e .y)) (subst T (sym (a .ranges)) tt) in
     let h = and-yes (lengthGood (e .length)) (radiusGood (e .kind) (e .length) (natAbs (e .radius))) (g .0) in
-    let l = between 1 (e .length) (e .length) 500000 (h .0) in
-    let f = between (natAbs (e .x)) 200000000 (natAbs (e .y)) 200000000 (g .1) in
+    let l = between 1 (e .length) (e .length) longestElement (h .0) in
+    let f = between (natAbs (e .x)) frame (natAbs (e .y)) frame (g .1) in
     record {
       shortest = l .0;
       longest = l .1;
       radius = radius-fits (e .kind) (e .length) (natAbs (e .radius)) (h .1);
       anchorX = f .0;
       anchorY = f .1;
-      unit = leb→le (natAbs (e .c *ℤ e .c +ℤ e .s *ℤ e .s -ℤ pos (2 ^ 60))) (2 ^ 31) u;
+      unit = leb→le (natAbs (e .c *ℤ e .c +ℤ e .s *ℤ e .s -ℤ pos (2 ^ 60))) unitSlack (subst T (sym (a .unit)) tt);
     }
 
-within : (a b c d : ℕ) → a ≤ b → c ≤ d → T (leb a b && leb c d)
-within a b c d h k = yes-and (leb a b) (leb c d) (le→leb a b h) (le→leb c d k)
+-- ---- a record that its rules accept
 
-fits-radius : (k : Kind) (l r : ℕ) → RadiusFits k l r → T (radiusGood k l r)
-unfolding radiusGood RadiusFits
-fits-radius Line l r h = subst (λ x. T (eqb x 0)) (sym h) tt
-fits-radius Arc l r h = within (2 * l) r r 10000000 (h .0) (h .1)
-fits-radius EntrySpiral l r h = within l r r 10000000 (h .0) (h .1)
-fits-radius ExitSpiral l r h = within l r r 10000000 (h .0) (h .1)
+record-accepted′ : (this : List ℕ) (r : ℕ) → AllHold (recordRules this r) → Accepted (elementOf this)
+unfolding recordRules
+record-accepted′ this r (more a (more b (more c (more d (more e none))))) = record { ranges = d; unit = e }
 
-pub accepted→good : (e : Element) → Accepted e → T (rangesGood e) × T (isUnit (e .c) (e .s))
-unfolding rangesGood isUnit lengthGood inFrame
-accepted→good e a = (
-  yes-and (lengthGood (e .length) && radiusGood (e .kind) (e .length) (natAbs (e .radius))) (inFrame (e .x) (e .y))
-      (yes-and (lengthGood (e .length)) (radiusGood (e .kind) (e .length) (natAbs (e .radius)))
-      (within 1 (e .length) (e .length) 500000 (a .shortest) (a .longest))
-      (fits-radius (e .kind) (e .length) (natAbs (e .radius)) (a .radius)))
-      (within (natAbs (e .x)) 200000000 (natAbs (e .y)) 200000000 (a .anchorX) (a .anchorY)),
-  le→leb (natAbs (e .c *ℤ e .c +ℤ e .s *ℤ e .s -ℤ pos (2 ^ 60))) (2 ^ 31) (a .unit),
-)
+pub record-accepted : (this : List ℕ) (r : ℕ) → verdict (recordRules this r) ≡ Done → Accepted (elementOf this)
+record-accepted this r h = record-accepted′ this r (done→all (recordRules this r) h)

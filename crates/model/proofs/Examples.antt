@@ -17,11 +17,11 @@ use Rattle.model.proofs.Answers.{located-accepted}
 unfoldable pub elementsK : List Element
 elementsK = record { kind = Line; length = 10000; x = pos 0; y = pos 0; c = pos ONE; s = pos 0; radius = pos 0 } ∷ []
 
-acceptedK : checked K ≡ Done
+pub acceptedK : checked K ≡ Done
 unfolding checked K
 acceptedK = refl
 
-readK : crestElements K ≡ elementsK
+pub readK : crestElements K ≡ elementsK
 unfolding crestElements K elementsK
 readK = refl
 

@@ -5,4 +5,5 @@ pub mod Accepted
 pub mod Judged
 pub mod Answers
 pub mod Examples
+pub mod Program
 pub mod WrongPrograms

@@ -47,6 +47,16 @@ verdict-after (r ∷ rs) ss e =
     let s = step (r .holds) (r .why) (r .place) (verdict rs) e in
     ap (λ b. orRefused b (r .why) (r .place) (verdict (rs ++ ss))) (s .0) ∙ verdict-after rs ss (s .1)
 
+-- rules that refuse decide the outcome, whatever comes after them
+pub refused-before : (rs ss : List Rule) {x : Refusal} → verdict rs ≡ Refused x → verdict (rs ++ ss) ≡ Refused x
+unfolding verdict orRefused
+refused-before [] ss e = let z : _≡_ {A = ℕ} 0 1 = cc in absurd (omega arith)
+refused-before (r ∷ rs) ss {x} e = go (r .holds) (refused-before rs ss) e
+  where
+    go : (b : Bool) → (verdict rs ≡ Refused x → verdict (rs ++ ss) ≡ Refused x) → orRefused b (r .why) (r .place) (verdict rs) ≡ Refused x → orRefused b (r .why) (r .place) (verdict (rs ++ ss)) ≡ Refused x
+    go true rest e = rest e
+    go false rest e = e
+
 -- The outcome of the first rule that does not hold is its refusal.
 pub first→refused : {rs : List Rule} {r : Rule} → FirstFailing rs r → verdict rs ≡ Refused (refusal (r .why) (r .place))
 unfolding verdict orRefused

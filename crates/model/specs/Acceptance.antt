@@ -17,6 +17,32 @@ use Rattle.model.specs.Records.{byteAt, u16At, u32At, i32At, part, allZe
 use Rattle.model.specs.Refusals.{Rule, rule, rule₀, verdict, forEach, byteCount, checksum, blockField, damagedRecord, laterKind, fieldOutOfRange, notUnit, gap, kink}
 use Rattle.model.specs.Series.{positionOn, tangentOn}
 
+-- ---- the limits
+
+-- "L from 1 to 500,000"
+abbrev pub longestElement : ℕ
+longestElement = 500000
+
+-- "x and y within ±200,000,000", and "The frame: every given point lies within ±200,000,000 in both coordinates."
+abbrev pub frame : ℕ
+frame = 200000000
+
+-- "|R| ≤ 10,000,000"
+abbrev pub widest : ℕ
+widest = 10000000
+
+-- "c² + s² at most 2^31 from 2^60"
+abbrev pub unitSlack : ℕ
+unitSlack = 2 ^ 31
+
+-- "differ by at most 100 grains in each coordinate"
+abbrev pub widestGap : ℕ
+widestGap = 100
+
+-- "and their directions by at most 1,000,000 in each component"
+abbrev pub widestKink : ℕ
+widestKink = 1000000
+
 -- ---- a record as an element
 
 unfoldable pub isDamaged : KindByte → Bool
@@ -49,18 +75,18 @@ reservedZero r = allZero (part r 1 3) && allZero (part r 28 4)
 
 -- "The frame: every given point lies within ±200,000,000 in both coordinates."
 unfoldable pub inFrame : ℤ → ℤ → Bool
-inFrame x y = leb (natAbs x) 200000000 && leb (natAbs y) 200000000
+inFrame x y = leb (natAbs x) frame && leb (natAbs y) frame
 
 -- "L from 1 to 500,000"
 unfoldable pub lengthGood : ℕ → Bool
-lengthGood l = leb 1 l && leb l 500000
+lengthGood l = leb 1 l && leb l longestElement
 
 -- "line R = 0; arc 2L ≤ |R| ≤ 10,000,000; spiral L ≤ |R| ≤ 10,000,000"
 unfoldable pub radiusGood : Kind → ℕ → ℕ → Bool
 radiusGood Line l r = eqb r 0
-radiusGood Arc l r = leb (2 * l) r && leb r 10000000
-radiusGood EntrySpiral l r = leb l r && leb r 10000000
-radiusGood ExitSpiral l r = leb l r && leb r 10000000
+radiusGood Arc l r = leb (2 * l) r && leb r widest
+radiusGood EntrySpiral l r = leb l r && leb r widest
+radiusGood ExitSpiral l r = leb l r && leb r widest
 
 -- "length, radius, x or y out of range", where x and y are "within ±200,000,000"
 unfoldable pub rangesGood : Element → Bool
@@ -69,7 +95,7 @@ rangesGood e = lengthGood (e .length) && radiusGood (e .kind) (e .length) (natAb
 
 -- "Direction: c² + s² at most 2^31 from 2^60."
 unfoldable pub isUnit : ℤ → ℤ → Bool
-isUnit c s = leb (natAbs (c *ℤ c +ℤ s *ℤ s -ℤ pos (2 ^ 60))) (2 ^ 31)
+isUnit c s = leb (natAbs (c *ℤ c +ℤ s *ℤ s -ℤ pos (2 ^ 60))) unitSlack
 
 -- "record by record its kind, reserved bytes, 6, 7": of record r with its bytes
 unfoldable pub recordRules : List ℕ → ℕ → List Rule
@@ -92,12 +118,12 @@ closeBy n p q = leb (natAbs (p .x -ℤ q .x)) n && leb (natAbs (p .y -ℤ q .y))
 -- "At each join the last position of an element and the first of the next differ by at most 100 grains in each coordinate"
 unfoldable pub meets : Element → Element → Bool
 unfolding closeBy positionOn
-meets e f = closeBy 100 (positionOn e (e .length)) (positionOn f 0)
+meets e f = closeBy widestGap (positionOn e (e .length)) (positionOn f 0)
 
 -- "and their directions by at most 1,000,000 in each component"
 unfoldable pub continues : Element → Element → Bool
 unfolding closeBy tangentOn
-continues e f = closeBy 1000000 (tangentOn e (e .length)) (tangentOn f 0)
+continues e f = closeBy widestKink (tangentOn e (e .length)) (tangentOn f 0)
 
 -- "then joins from the first, 8 before 9", "earlier record for 8, 9"
 unfoldable pub joinRules : Element → Element → ℕ → List Rule

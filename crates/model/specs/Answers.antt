@@ -106,14 +106,22 @@ placed file s =
 
 -- ---- station and offset of a point
 
+-- "least D above 400,000,000,000,000"
+abbrev pub farthest : ℕ
+farthest = 400000000000000
+
+-- "station judged 0 with residual below −100", "station judged T with residual above 100"
+abbrev pub pastEnd : ℕ
+pastEnd = 100
+
 -- "11 .. ; 12; 13; 14", the last three at the station judged, s
 unfoldable pub pointRules : List Element → Point → ℕ → List Rule
 unfolding inFrame D residualAt total
 pointRules es p s =
     rule₀ outsideFrame (inFrame (p .x) (p .y))
-    ∷ rule₀ tooFar (leb (D es p s) 400000000000000)
-    ∷ rule₀ beforeStart (not (eqb s 0 && ltZ (residualAt es p s) (negℤ (pos 100))))
-    ∷ rule₀ afterEnd (not (eqb s (total es) && ltZ (pos 100) (residualAt es p s)))
+    ∷ rule₀ tooFar (leb (D es p s) farthest)
+    ∷ rule₀ beforeStart (not (eqb s 0 && ltZ (residualAt es p s) (negℤ (pos pastEnd))))
+    ∷ rule₀ afterEnd (not (eqb s (total es) && ltZ (pos pastEnd) (residualAt es p s)))
     ∷ []
 
 unfoldable pub locatedIf : Outcome → List Element → Point → ℕ → Located
@@ -136,6 +144,10 @@ located file p = locatedAfter (crestRules file) (crestElements file) p
 
 -- ---- the inverse
 
+-- "|w| ≤ 20,000,000"
+abbrev pub widestOffset : ℕ
+widestOffset = 20000000
+
 -- "Inverse of station s and offset w ..: (X − near(w·Ty, ONE), Y + near(w·Tx, ONE))."
 unfoldable pub inverseAt : List Element → ℕ → ℤ → Point
 unfolding positionAt tangentAt near
@@ -149,7 +161,7 @@ unfoldable pub lineRules : List Element → ℤ → ℤ → List Rule
 unfolding isStation inFrame inverseAt
 lineRules es s w =
     let q = inverseAt es (natAbs s) w in
-    rule₀ askedOutOfRange (isStation es s && leb (natAbs w) 20000000)
+    rule₀ askedOutOfRange (isStation es s && leb (natAbs w) widestOffset)
     ∷ rule₀ outsideFrame (inFrame (q .x) (q .y))
     ∷ []
 

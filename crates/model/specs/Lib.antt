@@ -5,14 +5,15 @@ pub mod Kinds
 pub mod Records
 pub mod Series
 pub mod Bound
-pub mod Accepted
 pub mod Acceptance
 pub mod Writer
 pub mod Stations
+pub mod Accepted
 pub mod Judged
 pub mod Walk
 pub mod Answers
 pub mod Readings
 pub mod Run
 pub mod Histories
+pub mod Program
 pub mod Examples

@@ -20,27 +20,23 @@ use Rattle.model.specs.declared.Located.{Located}
 use Rattle.model.specs.declared.Located.the-variants.{Refused as LocatedRefused}
 use Rattle.model.specs.Refusals.{Rule, number, forEach}
 use Rattle.model.specs.Records.{recordBytes, usedBytes, countOf, recordOf, u16At, u32At, part, allZero, blockCount, blockOf, usedIn}
-use Rattle.model.specs.Acceptance.{elementOf, recordRules, joinRules, recordsRules, lengthFits, useFits, fieldsFit, sumRules, fieldRules, blocksRules, crestRules, checked, elementsFrom, elementsOf, crestElements}
-use Rattle.model.specs.Accepted.{Accepted, AllAccepted}
+use Rattle.model.specs.Acceptance.{recordRules, joinRules, recordsRules, lengthFits, useFits, fieldsFit, sumRules, fieldRules, blocksRules, crestRules, checked, elementsFrom, elementsOf, crestElements}
+use Rattle.model.specs.Accepted.{AllAccepted}
 use Rattle.model.specs.Judged.{judged}
 use Rattle.model.specs.Answers.{pointRules, locatedIf, locatedAfter, locatedOn, located}
-use Rattle.model.proofs.Verdict.{AllHold, none, more, done→all}
-use Rattle.model.proofs.Accepted.{good→accepted}
+use Rattle.model.proofs.Verdict.{AllHold, more, done→all, all→done}
+use Rattle.model.proofs.Accepted.{record-accepted}
 use Rattle.model.proofs.Answers.{located-accepted}
 use Rattle.nearest.proofs.Reasons.{first-holds, all-++, Lacks, empty, other, lacks-++, lacks-forEach, lacks→not-given, refused-++}
 
 -- ---- accepted elements
-
-record-accepted : (this : List ℕ) (r : ℕ) → AllHold (recordRules this r) → Accepted (elementOf this)
-unfolding recordRules
-record-accepted this r (more a (more b (more c (more d (more e none))))) = good→accepted (elementOf this) (subst T (sym d) tt) (subst T (sym e) tt)
 
 elements-accepted : (bytes : List ℕ) (n r : ℕ) → AllHold (forEach (λ i. recordRules (recordOf bytes i) i) n r) → AllAccepted (elementsFrom n r bytes)
 unfolding forEach elementsFrom AllAccepted
 elements-accepted bytes zero r a = tt
 elements-accepted bytes (suc n) r a =
     let x = all-++ (recordRules (recordOf bytes r) r) a in
-    (record-accepted (recordOf bytes r) r (x .0), elements-accepted bytes n (r + 1) (x .1))
+    (record-accepted (recordOf bytes r) r (all→done (x .0)), elements-accepted bytes n (r + 1) (x .1))
 
 pub crest-accepted : (file : List ℕ) → checked file ≡ Done → AllAccepted (crestElements file)
 unfolding checked crestRules recordsRules crestElements elementsOf

@@ -4,6 +4,7 @@ use Prim.Native.Nat.{ℕ, _-_, _/_, _≤_}
 use native.Mathlib.Omega.{arith}
 use lib.IntN.{ℤ, natAbs}
 use borrow.Author.Needs.{needs}
+use Rattle.model.proofs.Accepted.{numbers}
 use Rattle.model.specs.declared.Element.{Element}
 use Rattle.model.specs.Rounding.{ONE}
 use Rattle.elements.specs.declared.Prepared.{Prepared}
@@ -21,13 +22,13 @@ module _ (c : tie.Start) where
   e = c .args .e
 
   c-small : natAbs (e .c) ≤ ONE
-  c-small = unit-within (e .c) (e .s) (c .pre .unit)
+  c-small = unit-within (e .c) (e .s) (numbers (c .pre) .unit)
 
   s-small : natAbs (e .s) ≤ ONE
-  s-small = unit-within′ (e .c) (e .s) (c .pre .unit)
+  s-small = unit-within′ (e .c) (e .s) (numbers (c .pre) .unit)
 
   radius-small : natAbs (e .radius) ≤ 10000000
-  radius-small = radius-within (e .kind) (e .length) (c .pre .radius)
+  radius-small = radius-within (e .kind) (e .length) (numbers (c .pre) .radius)
 
   radius-held : held (e .radius) ≡ e .radius
   radius-held = held-small (e .radius) (omega (arith, radius-small))
@@ -49,7 +50,7 @@ module _ (c : tie.After-magnitude) where
   radius-is = c .magnitude .ensures ∙ ap natAbs (radius-held start)
 
 divisor-of-requires : tie.Need-divisor-of-requires
-divisor-of-requires c κs = omega (arith, radius-is c, radius-small (start c), start c .pre .longest)
+divisor-of-requires c κs = omega (arith, radius-is c, radius-small (start c), numbers (start c .pre) .longest)
 
 backward-on-requires : tie.Need-backward-on-requires
 backward-on-requires c κs = search needs
@@ -64,7 +65,7 @@ sub-t7 c =
       arith,
       negative-is (c .before .before),
       divisor-is (c .before),
-      sign-fits (e x .kind) {sign = signOf (e x .radius)} (x .pre .radius) (sign-magnitude (e x .radius)) (x .pre .shortest),
+      sign-fits (e x .kind) {sign = signOf (e x .radius)} (numbers (x .pre) .radius) (sign-magnitude (e x .radius)) (numbers (x .pre) .shortest),
     )
 
 with-sign-requires : tie.Need-with-sign-requires

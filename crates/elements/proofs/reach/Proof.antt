@@ -5,6 +5,7 @@ use native.Mathlib.Omega.{arith}
 use lib.IntN.{pos}
 use borrow.Author.Needs.{needs}
 use Rattle.model.specs.Series.{fromAnchor}
+use Rattle.model.proofs.Accepted.{numbers}
 use Rattle.elements.specs.Signs.{withSign}
 use Rattle.elements.specs.Reached.{Curved}
 use Rattle.elements.proofs.Preparing.{on-entry, on-exit, arc-asks, arc-curved, arc-angle-is, spiral-asks, spiral-curved, entry-angle-is, exit-angle-is, reached, reached-line, arc-curve, entry-curve, exit-curve}
@@ -15,7 +16,7 @@ enum-told : tie.Need-enum-told
 enum-told c = search needs
 
 mul-t7 : tie.Need-mul-t7
-mul-t7 c = search needs
+mul-t7 c = let x = c .before .before .before in omega (arith, x .pre .1, numbers (x .pre .0 .accepted) .longest)
 
 returns : tie.Need-returns
 returns c = let x = c .before .before .before in reached-line (x .args .p) (x .pre .0) (x .args .s) (c .enum-told .given .1)

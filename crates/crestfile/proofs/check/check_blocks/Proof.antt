@@ -9,10 +9,9 @@ use Rattle.model.specs.declared.Outcome.the-variants.{Done}
 use Rattle.model.specs.Records.{blockCount}
 use Rattle.model.specs.Refusals.{Rule, rule₀, verdict, forEach, byteCount}
 use Rattle.model.specs.Acceptance.{lengthFits, sumRules, blocksRules}
-use Rattle.model.proofs.Verdict.{done→all, verdict-after}
+use Rattle.model.proofs.Verdict.{done→all, verdict-after, refused-before}
 use Rattle.crestfile.proofs.ForEach.{holds-one}
 use Rattle.crestfile.proofs.Crest.{fits→sized}
-use Rattle.crestfile.proofs.Orders.{refused-before}
 use Rattle.crestfile.proofs.check.check_blocks.Statement.{statement}
 use Rattle.crestfile.proofs.check.check_blocks.Tie as tie
 

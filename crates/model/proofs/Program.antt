@@ -1,0 +1,106 @@
+-- Document 01's printed example: "For K, readings 1 and 4 above".
+use Prim.Native.Nat.{ℕ, _+_}
+use mathlib.Core.Bool.{false}
+use mathlib.Core.List.{List, [], _∷_, _++_}
+use mathlib.Core.Path.{_≡_, refl, _∙_, ap}
+use lib.IntN.{pos}
+use lib.Ieee.{Float, binary64, ofBits}
+use Rattle.model.specs.declared.Reading.{Reading}
+use Rattle.model.specs.declared.Run.{Run}
+use Rattle.model.specs.declared.Reading.the-variants.{PlanePoint}
+use Rattle.model.specs.declared.Outcome.the-variants.{Done}
+use Rattle.model.specs.Refusals.{verdict, orRefused}
+use Rattle.model.specs.Acceptance.{checked, crestRules, crestElements}
+use Rattle.model.specs.Answers.{locatedOn}
+use Rattle.model.specs.Readings.{numberRules, answerTo, fromLocated, valueOf, wholeOf}
+use Rattle.model.specs.Run.{Shown, fresh, isFull, fullRules, shownOf, counted, noted, notedIf}
+use Rattle.model.specs.Program.{ascii, heading, readingLine, lastLine, readingsOf, printFrom, printed}
+use Rattle.model.specs.Examples.{K, point}
+use Rattle.model.proofs.Verdict.{verdict-after}
+use Rattle.model.proofs.Answers.{located-after}
+use Rattle.model.proofs.Examples.{elementsK, acceptedK, readK}
+
+-- x and y of examples 1 and 4 as f64: (512, 300) and (−101, 0)
+unfoldable pub readingsK : List ℕ
+readingsK =
+    (0 ∷ 0 ∷ 0 ∷ 0 ∷ 0 ∷ 0 ∷ 0x80 ∷ 0x40 ∷ [])
+    ++ ((0 ∷ 0 ∷ 0 ∷ 0 ∷ 0 ∷ 0xC0 ∷ 0x72 ∷ 0x40 ∷ []) ++ ((0 ∷ 0 ∷ 0 ∷ 0 ∷ 0 ∷ 0x40 ∷ 0x59 ∷ 0xC0 ∷ []) ++ (0 ∷ 0 ∷ 0 ∷ 0 ∷ 0 ∷ 0 ∷ 0 ∷ 0 ∷ [])))
+
+-- what the reading (x, y) on K comes to
+abbrev on-K : Float → Float → Shown
+on-K x y = shownOf (fromLocated (locatedOn elementsK (point (valueOf (wholeOf x)) (valueOf (wholeOf y)))))
+
+-- a reading on K whose numbers are whole
+module _ (x y : Float) (w : verdict (numberRules x y) ≡ Done) where
+  answer-on-K : answerTo K (PlanePoint x y) ≡ fromLocated (locatedOn elementsK (point (valueOf (wholeOf x)) (valueOf (wholeOf y))))
+  unfolding answerTo checked
+  answer-on-K =
+      let p = point (valueOf (wholeOf x)) (valueOf (wholeOf y)) in
+      ap fromLocated (located-after (crestRules K ++ numberRules x y) (crestElements K) p (verdict-after (crestRules K) (numberRules x y) acceptedK ∙ w) ∙ ap (λ es. locatedOn es p) readK)
+
+  -- its line, where the run is not full, and what follows
+  taken : (i : ℕ) (run : Run) (rs : List Reading) → isFull run ≡ false →
+      printFrom K i run (PlanePoint x y ∷ rs) ≡ readingLine i (on-K x y) ++ printFrom K (i + 1) (counted (on-K x y) run) rs
+  unfolding printFrom noted notedIf verdict orRefused fullRules
+  taken i run rs h = rw (h, answer-on-K)
+
+abbrev double : ℕ → Float
+double bits = ofBits binary64 bits
+
+-- the two readings, by the bits of their numbers
+abbrev x₁ : Float
+x₁ = double 0x4080_0000_0000_0000
+
+abbrev y₁ : Float
+y₁ = double 0x4072_C000_0000_0000
+
+abbrev x₄ : Float
+x₄ = double 0xC059_4000_0000_0000
+
+abbrev y₄ : Float
+y₄ = double 0
+
+readings-read : readingsOf readingsK ≡ PlanePoint x₁ y₁ ∷ PlanePoint x₄ y₄ ∷ []
+unfolding readingsOf readingsK
+readings-read = refl
+
+whole-1 : verdict (numberRules x₁ y₁) ≡ Done
+unfolding verdict numberRules ofBits
+whole-1 = refl
+
+whole-4 : verdict (numberRules x₄ y₄) ≡ Done
+unfolding verdict numberRules ofBits
+whole-4 = refl
+
+-- what they come to
+abbrev o₁ : Shown
+o₁ = record { number = 0; one = pos 5; two = pos 300; three = pos 12 }
+
+abbrev o₄ : Shown
+o₄ = record { number = 13; one = pos 0; two = pos 0; three = pos 0 }
+
+came-1 : on-K x₁ y₁ ≡ o₁
+unfolding shownOf fromLocated locatedOn elementsK valueOf wholeOf ofBits
+came-1 = refl
+
+came-4 : on-K x₄ y₄ ≡ o₄
+unfolding shownOf fromLocated locatedOn elementsK valueOf wholeOf ofBits
+came-4 = refl
+
+abbrev run₁ : Run
+run₁ = record { answered = 1; refused = 0; latest = 0; first = 0; reading = 0; one = pos 5; two = pos 300; three = pos 12 }
+
+second-line : printFrom K 2 run₁ (PlanePoint x₄ y₄ ∷ []) ≡ readingLine 2 o₄ ++ lastLine (counted o₄ run₁)
+unfolding printFrom isFull
+second-line = taken x₄ y₄ whole-4 2 run₁ [] refl ∙ ap (λ o. readingLine 2 o ++ lastLine (counted o run₁)) came-4
+
+both-lines : printFrom K 1 fresh (PlanePoint x₁ y₁ ∷ PlanePoint x₄ y₄ ∷ []) ≡ readingLine 1 o₁ ++ (readingLine 2 o₄ ++ lastLine (counted o₄ run₁))
+unfolding isFull counted
+both-lines =
+    taken x₁ y₁ whole-1 1 fresh (PlanePoint x₄ y₄ ∷ []) refl
+    ∙ ap (λ o. readingLine 1 o ++ printFrom K 2 (counted o fresh) (PlanePoint x₄ y₄ ∷ [])) came-1
+    ∙ ap (λ t. readingLine 1 o₁ ++ t) second-line
+
+pub printed-example : printed K readingsK ≡ ascii "reading station offset residual\n1 5 300 12\n2 refused 13\nanswered 1 refused 1 first 2 13\n"
+unfolding printed heading readingLine lastLine counted
+printed-example = ap (λ rs. heading ++ printFrom K 1 fresh rs) readings-read ∙ ap (λ t. heading ++ t) both-lines

@@ -1472,6 +1472,78 @@ def refusals(rng):
     return Chapter(13, "Refusals", uses, tables)
 
 
+# ---------------------------------------------------------------------------
+# 14 Program
+
+
+def program_line(number, outcome):
+    """A reading's line, from the reference's text of one reading."""
+    words = (number, "refused", outcome.number) if outcome.number else (number, *outcome.three)
+    return " ".join(map(str, words)) + "\n"
+
+
+def last_line(state):
+    first = f"{state.first_reading} {state.first}" if state.first else "none"
+    return f"answered {state.answered} refused {state.refused} first {first}\n"
+
+
+def program(rng):
+    numbers = [0, 9, 10, 11, 99, 100, 101, 65_535, 65_536, 30_000_000, 2**64] + [spread(rng, 10**9) for _ in range(40)]
+    decimals = [Case(f"decimal {n}", spelt(str(n).encode())) for n in numbers]
+    signs = [Case(f"signed {whole(n)}", spelt(str(n).encode())) for n in (0, -1, 1, -9, -10, -100, -(2**31))]
+    signs += [Case(f"signed {whole(n)}", spelt(str(n).encode())) for n in (signed(rng, 20_000_424) for _ in range(30))]
+    lines, lasts = [], []
+    for _ in range(40):
+        outcome, _ = random_answer(rng)
+        number = rng.choice((1, 9, 10, 65_536, spread(rng, 70_000)))
+        lines.append(Case(f"readingLine {number} {shown_text(outcome)}", spelt(program_line(number, outcome).encode())))
+        state = random_run(rng)
+        if rng.randrange(3) == 0:
+            state = state._replace(first=0)
+        lasts.append(Case(f"lastLine {run_text(state)}", spelt(last_line(state).encode())))
+    read, printed = [], []
+    for _ in range(40):
+        file, alignment = short_crest(rng)
+        data = b""
+        for _ in range(rng.randint(0, 3)):
+            reading = some_reading(rng, alignment)
+            data += b"".join(bits.to_bytes(8, "little") for bits in reading)
+        data += rng.randbytes(rng.choice((0, 0, 1, 8, 15)))
+        found = listed(map(reading_text, crest.plane_readings(data)))
+        read.append(Case(f"readingsOf {spelt(data)}", found))
+        printed.append(Case(f"printed {spelt(file)} {spelt(data)}", spelt(crest.program_text(file, data).encode())))
+    full = []
+    for _ in range(20):
+        # a run that fills while it is read: the numbers in the input go on
+        file, alignment = short_crest(rng)
+        start = crest.Run(65_535 - rng.randint(0, 2), 0)
+        found = [some_reading(rng, alignment) for _ in range(3)]
+        found = [crest.PlanePoint(*reading) for reading in found]
+        state, text, held = start, "", crest.check(file)
+        for number, reading in enumerate(found, 65_534):
+            outcome, state = crest.take_reading(state, held, reading)
+            text += program_line(number, outcome)
+        asked = f"printFrom {spelt(file)} 65534 {run_text(start)} {listed(map(reading_text, found))}"
+        full.append(Case(asked, spelt((text + last_line(state)).encode())))
+    tables = [
+        Table("decimals", "List ℕ", "decimal", decimals),
+        Table("signs", "List ℕ", "signed", signs),
+        Table("reading-lines", "List ℕ", "readingLine", lines),
+        Table("last-lines", "List ℕ", "lastLine", lasts),
+        Table("readings-of", "List Reading", "readingsOf", read, 20),
+        Table("printed", "List ℕ", "printed ofBits", printed, 5),
+        Table("full", "List ℕ", "printFrom ofBits", full, 5),
+    ]
+    uses = (
+        *READING_USES,
+        "declared.Run.{Run}",
+        "lib.Ieee.{ofBits}",
+        "Run.{Shown}",
+        "Program.{decimal, signed, readingLine, lastLine, readingsOf, printFrom, printed}",
+    )
+    return Chapter(14, "Program", uses, tables, (SHOWN_FORM,))
+
+
 MAKERS = (
     rounding,
     records,
@@ -1486,6 +1558,7 @@ MAKERS = (
     readings,
     run,
     refusals,
+    program,
 )
 
 

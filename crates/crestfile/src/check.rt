@@ -9,6 +9,7 @@ ghost use mathlib.Core.List.{[], _∷_};
 ghost use mathlib.Core.Path.{_≡_};
 ghost use Prim.Native.Nat.{_+_, _≤_};
 ghost use lib.ListN.{length};
+ghost use denote.Ref.{ptr};
 ghost use Rattle.model.specs.Records.{part, blockCount, recordBytes, countOf, recordOf};
 ghost use Rattle.model.specs.Refusals.{rule₀, verdict, forEach, byteCount};
 ghost use Rattle.model.specs.Acceptance.{lengthFits, sumRules, fieldRules, blocksRules, recordRules};
@@ -24,10 +25,11 @@ pub fn check_length(len: usize) -> Outcome
     }
 }
 
-// n bytes from `at` on.
-fn part_at(bytes: &[u8], at: usize, n: usize) -> &[u8]
+// n bytes from `at` on, where they lie: a pointer is a block of memory and an offset in it.
+pub fn part_at(bytes: &[u8], at: usize, n: usize) -> &[u8]
     requires { ⌜ at + n ≤ length (now bytes) ⌝ }
     ensures { λ r. ⌜ now r ≡ part (now (bytes .entry)) at n ⌝ }
+    ensures place { λ r. ⌜ ptr r ≡ (ptr (bytes .entry) .0, at + ptr (bytes .entry) .1) ⌝ }
 {
     &bytes[at..at + n]
 }

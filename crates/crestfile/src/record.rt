@@ -17,7 +17,7 @@ ghost use Rattle.model.specs.Refusals.{verdict};
 ghost use Rattle.model.specs.Acceptance.{kindIn, elementOf, reservedZero, inFrame, radiusGood, rangesGood, isUnit, recordRules};
 
 // The absolute value, which of the least i64 is no i64.
-fn magnitude(z: i64) -> u64
+pub fn magnitude(z: i64) -> u64
     ensures { λ r. ⌜ r ≡ natAbs z ⌝ }
 {
     if z >= 0 { z as u64 } else { (!z) as u64 + 1 }

@@ -24,6 +24,7 @@ use Rattle.model.specs.Answers.{locatedOn, located}
 use Rattle.model.proofs.Judged.{judged-least}
 use Rattle.nearest.proofs.Spaced as spaced
 use Rattle.nearest.proofs.Walked as walked
+use Rattle.alignment.proofs.AcceptCrest.{crest-accepted, crest-some}
 use Rattle.nearest.proofs.Crest as crest
 use Rattle.nearest.proofs.Outcomes as outcomes
 
@@ -77,7 +78,7 @@ module _ (es : List Element) (some : 0 < length es) (accepted : AllAccepted es) 
 module _ (file : List ℕ) (p : Point) where
   -- an accepted file's elements are an accepted alignment: all of the above holds of them
   pub accepted-file : checked file ≡ Done → (0 < length (crestElements file)) × AllAccepted (crestElements file)
-  accepted-file e = (crest.crest-some file e, crest.crest-accepted file e)
+  accepted-file e = (crest-some file e, crest-accepted file e)
 
   -- a file that is refused gives its own refusal
   pub refused-file : (why : Refusal) → checked file ≡ Refused why → located file p ≡ LocatedRefused why

@@ -18,10 +18,6 @@ first-holds (more h a) = h
 pub rest-hold : {r : Rule} {rs : List Rule} → AllHold (r ∷ rs) → AllHold rs
 rest-hold (more h a) = a
 
-pub all-++ : (rs : List Rule) {ss : List Rule} → AllHold (rs ++ ss) → AllHold rs × AllHold ss
-all-++ [] a = (none, a)
-all-++ (r ∷ rs) (more h a) = let x = all-++ rs a in (more h (x .0), x .1)
-
 -- ---- the number that is given
 
 -- no rule of the list gives the number n
@@ -59,16 +55,6 @@ lacks→not-given {w} (other {r} {rs} h l) e = go (lacks→not-given l) (source 
     go : (verdict rs ≡ Refused w → ⊥) → Source r rs w → ⊥
     go rest (from-first f n) = h n
     go rest (from-rest f d) = rest d
-
--- the refusal of an order stays where more rules come after it
-pub refused-++ : (rs ss : List Rule) {w : Refusal} → verdict rs ≡ Refused w → verdict (rs ++ ss) ≡ Refused w
-unfolding verdict orRefused
-refused-++ [] ss e = let z : _≡_ {A = ℕ} 0 1 = cc in absurd (omega arith)
-refused-++ (r ∷ rs) ss {w} e = go (r .holds) (refused-++ rs ss) e
-  where
-    go : (b : Bool) → (verdict rs ≡ Refused w → verdict (rs ++ ss) ≡ Refused w) → orRefused b (r .why) (r .place) (verdict rs) ≡ Refused w → orRefused b (r .why) (r .place) (verdict (rs ++ ss)) ≡ Refused w
-    go true rest f = rest f
-    go false rest f = f
 
 module _ (r : Rule) (after : List Rule) (l : Lacks (number (r .why)) after) where
   first-failing : (before : List Rule) → Lacks (number (r .why)) before → verdict (before ++ (r ∷ after)) ≡ Refused (refusal (r .why) (r .place)) → AllHold before × (r .holds ≡ false)

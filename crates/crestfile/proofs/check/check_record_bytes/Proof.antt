@@ -29,7 +29,7 @@ few c = count-fits _ .0 (c .before .before .before .pre) .1
 tested : (c : tie.After-check-record Inv-loop μ-loop) → verdict (rulesOf (c .before .before .before .before .before .args .records .now) (c .before .before .before .loop .r)) ≡ c .check-record .result
 tested c =
     let r = c .before .before .before .loop .r in
-    sym (c .check-record .ensures ∙ ap (λ x. verdict (recordRules x r)) (c .before .part-at .ensures))
+    sym (c .check-record .ensures ∙ ap (λ x. verdict (recordRules x r)) (c .before .part-at .ensures .0))
 
 loop-holds : tie.Need-loop-holds Inv-loop μ-loop
 loop-holds c = left-all _ _
@@ -44,7 +44,7 @@ cast-check-record : tie.Need-cast-check-record Inv-loop μ-loop
 cast-check-record c = omega (arith, few (c .before))
 
 check-record-requires : tie.Need-check-record-requires Inv-loop μ-loop
-check-record-requires c κs = rw (c .part-at .ensures) (length-part (c .before .before .before .before .args .records .now) (32 * c .before .before .loop .r) 32 (omega arith))
+check-record-requires c κs = rw (c .part-at .ensures .0) (length-part (c .before .before .before .before .args .records .now) (32 * c .before .before .loop .r) 32 (omega arith))
 
 enum-known-x : tie.Need-enum-known-x Inv-loop μ-loop
 enum-known-x c = search needs

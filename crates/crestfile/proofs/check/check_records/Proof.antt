@@ -40,7 +40,7 @@ tested : (c : tie.After-check-record Inv-loop μ-loop) → verdict (rulesOf (c .
 tested c =
     let r = c .before .before .before .loop .r in
     let w = here (c .before .before) in
-    sym (c .check-record .ensures ∙ ap (λ x. verdict (recordRules x r)) (c .before .part-at .ensures ∙ w .0))
+    sym (c .check-record .ensures ∙ ap (λ x. verdict (recordRules x r)) (c .before .part-at .ensures .0 ∙ w .0))
 
 record-count-requires : tie.Need-record-count-requires Inv-loop μ-loop
 record-count-requires c κs = search needs
@@ -64,7 +64,7 @@ cast-check-record : tie.Need-cast-check-record Inv-loop μ-loop
 cast-check-record c = omega (arith, here (c .before))
 
 check-record-requires : tie.Need-check-record-requires Inv-loop μ-loop
-check-record-requires c κs = rw (c .part-at .ensures) (length-part (c .before .before .before .before .before .args .file .now) (recordStart (c .before .before .loop .r)) 32 (here (c .before) .1))
+check-record-requires c κs = rw (c .part-at .ensures .0) (length-part (c .before .before .before .before .before .args .file .now) (recordStart (c .before .before .loop .r)) 32 (here (c .before) .1))
 
 enum-known-x : tie.Need-enum-known-x Inv-loop μ-loop
 enum-known-x c = search needs

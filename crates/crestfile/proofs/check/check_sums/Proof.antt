@@ -25,7 +25,7 @@ tested : (c : tie.After-sums-agree Inv-loop μ-loop) → let file = c .before .b
 tested c =
     let file = c .before .before .before .before .before .args .file .now in
     let b = c .before .before .before .loop .b in
-    sym (c .sums-agree .ensures ∙ ap (λ x. sumsAgree x) (c .before .part-at .ensures))
+    sym (c .sums-agree .ensures ∙ ap (λ x. sumsAgree x) (c .before .part-at .ensures .0))
 
 loop-holds : tie.Need-loop-holds Inv-loop μ-loop
 loop-holds c = left-all _ _
@@ -37,7 +37,7 @@ part-at-requires : tie.Need-part-at-requires Inv-loop μ-loop
 part-at-requires c κs = omega arith
 
 sums-agree-requires : tie.Need-sums-agree-requires Inv-loop μ-loop
-sums-agree-requires c κs = rw (c .part-at .ensures) (length-part (c .before .before .before .before .args .file .now) (512 * c .before .before .loop .b) 512 (omega arith))
+sums-agree-requires c κs = rw (c .part-at .ensures .0) (length-part (c .before .before .before .before .args .file .now) (512 * c .before .before .loop .b) 512 (omega arith))
 
 cast-refused : tie.Need-cast-refused Inv-loop μ-loop
 cast-refused c = omega arith

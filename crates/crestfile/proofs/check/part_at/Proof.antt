@@ -1,4 +1,5 @@
 -- `crestfile::check::part_at` meets its contract: the bytes from `at` to `at + n` are n bytes from `at` on.
+use mathlib.Core.Path.{refl}
 use borrow.Author.Needs.{needs}
 use Rattle.crestfile.proofs.Parts.{lent-part}
 use Rattle.crestfile.proofs.check.part_at.Statement.{statement}
@@ -19,7 +20,7 @@ part-result-end c = search needs
 returns : tie.Need-returns
 returns c =
     let a = c .before .args in
-    lent-part (a .bytes .now) (a .at) (a .n)
+    (lent-part (a .bytes .now) (a .at) (a .n), refl)
 
 pub part-at-spec : {M : Type 1} → statement M
 part-at-spec = tie.close (tie.spec add-result sub-result part-result-start part-result-end returns)

@@ -1,0 +1,331 @@
+/* Station and offset of a point on a crest file, straight from document 01 with 128-bit numbers: the file is checked, the walk visits the same
+   stations, and the answer is that of the station judged.
+   usage: walk (crate|plain) FILE COUNT -- answers each point of FILE (bench/walk_crests.py) COUNT times, with the library or with this file, and prints a sum
+          walk times FILE COUNT -- nanoseconds a call with the library, with this file, and their quotient */
+#include <stdint.h>
+#include <stdio.h>
+#include <stdlib.h>
+#include <string.h>
+#include <time.h>
+
+uint32_t probe_locate(const uint8_t *crest, size_t crest_len, int32_t x, int32_t y, uint8_t *out, size_t out_len);
+
+typedef __int128 whole;
+
+static const int64_t ONE = 1 << 30;
+
+enum { LINE = 1, ARC, ENTRY_SPIRAL, EXIT_SPIRAL };
+
+typedef struct {
+    int kind;
+    int64_t length, x, y, c, s, radius;
+} element;
+
+typedef struct {
+    int count;
+    int64_t total;
+    element elements[60];
+} alignment;
+
+typedef struct {
+    int64_t x, y, tx, ty;
+} placement;
+
+/* the whole number nearest n/d, a half going up; d is above 0 */
+static whole near(whole n, whole d)
+{
+    whole a = 2 * n + d, b = 2 * d, q = a / b;
+    return a % b < 0 ? q - 1 : q;
+}
+
+static whole factor(whole p, int a, int b, int d)
+{
+    return ONE - near(p * (ONE - near(b * p, d)), (whole)a * ONE);
+}
+
+/* t, and u and v */
+static void series(const element *e, int64_t s, whole *t, whole *u, whole *v)
+{
+    whole l = e->kind == EXIT_SPIRAL ? e->length - s : s;
+    whole n = e->kind == ARC ? ONE * l : ONE * l * l;
+    whole d = e->kind == ARC ? (whole)e->radius : 2 * (whole)e->radius * e->length;
+    *t = d < 0 ? near(-n, -d) : near(n, d);
+    whole p = near(*t * *t, ONE);
+    whole w = near(100 * l * *t, ONE);
+    if (e->kind == ARC) {
+        *u = near(100 * l * factor(p, 6, 1, 20), ONE);
+        *v = near(w * factor(p, 12, 1, 30), 2 * (whole)ONE);
+    } else {
+        *u = near(100 * l * factor(p, 10, 5, 108), ONE);
+        *v = near(w * factor(p, 14, 7, 220), 3 * (whole)ONE);
+        if (e->kind == EXIT_SPIRAL)
+            *u = -*u;
+    }
+}
+
+static void position(const element *e, int64_t s, int64_t *x, int64_t *y)
+{
+    whole t, u = 100 * s, v = 0;
+    if (e->kind != LINE)
+        series(e, s, &t, &u, &v);
+    *x = e->x + (int64_t)near(e->c * u - e->s * v, ONE);
+    *y = e->y + (int64_t)near(e->s * u + e->c * v, ONE);
+}
+
+static placement place(const element *e, int64_t s)
+{
+    placement at;
+    whole t = 0, u, v, along = ONE, aside = 0;
+    position(e, s, &at.x, &at.y);
+    if (e->kind != LINE) {
+        series(e, s, &t, &u, &v);
+        whole p = near(t * t, ONE);
+        along = factor(p, 2, 1, 12);
+        aside = near(t * factor(p, 6, 1, 20), ONE);
+        if (e->kind == EXIT_SPIRAL)
+            aside = -aside;
+    }
+    at.tx = (int64_t)near(e->c * along - e->s * aside, ONE);
+    at.ty = (int64_t)near(e->s * along + e->c * aside, ONE);
+    return at;
+}
+
+/* ---- the file */
+
+static uint32_t u16_at(const uint8_t *b)
+{
+    return b[0] | b[1] << 8;
+}
+
+static uint32_t u32_at(const uint8_t *b)
+{
+    return u16_at(b) | u16_at(b + 2) << 16;
+}
+
+static int zeros(const uint8_t *b, size_t n)
+{
+    while (n > 0)
+        if (b[--n] != 0)
+            return 0;
+    return 1;
+}
+
+static int64_t magnitude(int64_t n)
+{
+    return n < 0 ? -n : n;
+}
+
+static int radius_fits(const element *e)
+{
+    int64_t r = magnitude(e->radius);
+    if (e->kind == LINE)
+        return r == 0;
+    return (e->kind == ARC ? 2 * e->length : e->length) <= r && r <= 10000000;
+}
+
+static int apart(int64_t a, int64_t b, int64_t limit)
+{
+    return magnitude(a - b) > limit;
+}
+
+/* the refusal number of the file's own bytes, 0 for an accepted one */
+static int accepted(const uint8_t *file, size_t length, alignment *a)
+{
+    if (length == 0 || length % 512 != 0 || length > 2048)
+        return 1;
+    int blocks = length / 512;
+    for (int b = 0; b < blocks; b++) {
+        const uint8_t *block = file + 512 * b;
+        uint32_t sum = 0, weighted = 0;
+        for (int i = 0; i < 508; i++) {
+            sum += block[i];
+            weighted += (508 - i) * block[i];
+        }
+        if (u16_at(block + 508) != sum % 65536 || u16_at(block + 510) != weighted % 65536)
+            return 2;
+    }
+    a->count = 0;
+    a->total = 0;
+    for (int b = 0; b < blocks; b++) {
+        const uint8_t *block = file + 512 * b;
+        int used = u16_at(block + 482);
+        if ((int)u16_at(block + 480) != b || used < (b + 1 < blocks ? 15 : 1) || used > 15 || u32_at(block + 484) != 1
+            || !zeros(block + 488, 20) || !zeros(block + 32 * used, 480 - 32 * used))
+            return 3;
+    }
+    for (int b = 0; b < blocks; b++) {
+        const uint8_t *block = file + 512 * b;
+        for (int r = 0; r < (int)u16_at(block + 482); r++) {
+            const uint8_t *record = block + 32 * r;
+            element *e = &a->elements[a->count++];
+            e->kind = record[0];
+            e->length = u32_at(record + 4);
+            e->x = (int32_t)u32_at(record + 8);
+            e->y = (int32_t)u32_at(record + 12);
+            e->c = (int32_t)u32_at(record + 16);
+            e->s = (int32_t)u32_at(record + 20);
+            e->radius = (int32_t)u32_at(record + 24);
+            if (e->kind == 0 || e->kind > 15)
+                return 4;
+            if (e->kind > 4)
+                return 5;
+            if (!zeros(record + 1, 3) || !zeros(record + 28, 4))
+                return 4;
+            if (e->length < 1 || e->length > 500000 || !radius_fits(e) || magnitude(e->x) > 200000000 || magnitude(e->y) > 200000000)
+                return 6;
+            whole unit = (whole)e->c * e->c + (whole)e->s * e->s - ((whole)1 << 60);
+            if (unit > (whole)1 << 31 || -unit > (whole)1 << 31)
+                return 7;
+            a->total += e->length;
+        }
+    }
+    for (int r = 0; r + 1 < a->count; r++) {
+        placement end = place(&a->elements[r], a->elements[r].length), start = place(&a->elements[r + 1], 0);
+        if (apart(end.x, start.x, 100) || apart(end.y, start.y, 100))
+            return 8;
+        if (apart(end.tx, start.tx, 1000000) || apart(end.ty, start.ty, 1000000))
+            return 9;
+    }
+    return 0;
+}
+
+/* ---- the walk */
+
+static uint64_t root(uint64_t n)
+{
+    uint64_t low = 0, high = (uint64_t)1 << 32;
+    while (high - low > 1) {
+        uint64_t middle = (low + high) / 2;
+        if (middle * middle <= n)
+            low = middle;
+        else
+            high = middle;
+    }
+    return low;
+}
+
+/* the element of a station that is not before the given one, and the station of its start */
+static void seek(const alignment *a, int64_t station, int *r, int64_t *start)
+{
+    while (*r + 1 < a->count && station - *start >= a->elements[*r].length)
+        *start += a->elements[(*r)++].length;
+}
+
+static uint64_t distance(const alignment *a, int64_t station, int *r, int64_t *start, int64_t x, int64_t y)
+{
+    int64_t px, py;
+    seek(a, station, r, start);
+    position(&a->elements[*r], station - *start, &px, &py);
+    return (uint64_t)((px - x) * (px - x) + (py - y) * (py - y));
+}
+
+static uint32_t plain_locate(const uint8_t *file, size_t length, int32_t x, int32_t y, uint8_t *out, size_t out_length)
+{
+    alignment a;
+    int number = accepted(file, length, &a);
+    if (out_length != 16)
+        return 18;
+    if (number != 0)
+        return number;
+    if (magnitude(x) > 200000000 || magnitude(y) > 200000000)
+        return 11;
+    uint64_t best = UINT64_MAX;
+    int64_t judged = 0;
+    uint32_t visits = 0;
+    int r = 0;
+    int64_t start = 0;
+    for (int64_t s = 0; s <= a.total; s = s == a.total ? s + 1 : s + 1000 > a.total ? a.total : s + 1000) {
+        uint64_t d = distance(&a, s, &r, &start, x, y);
+        visits++;
+        if (d < best) {
+            best = d;
+            judged = s;
+        }
+    }
+    r = 0;
+    start = 0;
+    for (int64_t s = 0; s <= a.total;) {
+        uint64_t d = distance(&a, s, &r, &start, x, y);
+        visits++;
+        if (d < best || (d == best && s < judged)) {
+            best = d;
+            judged = s;
+        }
+        int64_t over = (int64_t)root(d) - (int64_t)root(best);
+        int64_t next = s + 1 + (over < 31 ? 0 : (over - 31) / 150);
+        int64_t after = start + a.elements[r].length;
+        s = r + 1 < a.count && next > after ? after : next;
+    }
+    if (best > 400000000000000)
+        return 12;
+    r = 0;
+    start = 0;
+    seek(&a, judged, &r, &start);
+    placement at = place(&a.elements[r], judged - start);
+    int64_t dx = x - at.x, dy = y - at.y;
+    int32_t values[4] = {judged, near((whole)at.tx * dy - (whole)at.ty * dx, ONE), near((whole)at.tx * dx + (whole)at.ty * dy, ONE), visits};
+    if (judged == 0 && values[2] < -100)
+        return 13;
+    if (judged == a.total && values[2] > 100)
+        return 14;
+    memcpy(out, values, 16);
+    return 0;
+}
+
+/* ---- the measurement */
+
+typedef uint32_t locate(const uint8_t *, size_t, int32_t, int32_t, uint8_t *, size_t);
+
+typedef struct {
+    uint8_t *crest;
+    uint32_t crest_length, points;
+    int32_t *xy;
+} work;
+
+static work loaded(const char *name)
+{
+    work w = {0};
+    FILE *f = fopen(name, "rb");
+    if (!f || fread(&w.crest_length, 4, 1, f) != 1 || !(w.crest = malloc(w.crest_length)) || fread(w.crest, w.crest_length, 1, f) != 1
+        || fread(&w.points, 4, 1, f) != 1 || !(w.xy = malloc(8 * w.points)) || fread(w.xy, 8, w.points, f) != w.points)
+        exit(2);
+    fclose(f);
+    return w;
+}
+
+static uint64_t answered(const work *w, locate *by, long count)
+{
+    uint64_t sum = 0;
+    for (long i = 0; i < count; i++)
+        for (uint32_t p = 0; p < w->points; p++) {
+            uint32_t out[4] = {0};
+            sum = sum * 31 + by(w->crest, w->crest_length, w->xy[2 * p], w->xy[2 * p + 1], (uint8_t *)out, 16);
+            for (int k = 0; k < 4; k++)
+                sum = sum * 31 + out[k];
+        }
+    return sum;
+}
+
+static double nanoseconds(const work *w, locate *by, long count)
+{
+    struct timespec from, to;
+    clock_gettime(CLOCK_MONOTONIC, &from);
+    answered(w, by, count);
+    clock_gettime(CLOCK_MONOTONIC, &to);
+    return ((to.tv_sec - from.tv_sec) * 1e9 + (to.tv_nsec - from.tv_nsec)) / ((double)count * w->points);
+}
+
+int main(int argc, char **argv)
+{
+    if (argc != 4)
+        return 2;
+    work w = loaded(argv[2]);
+    long count = strtol(argv[3], 0, 10);
+    if (strcmp(argv[1], "times") == 0) {
+        double with = nanoseconds(&w, probe_locate, count), without = nanoseconds(&w, plain_locate, count);
+        printf("%.0f %.0f %.3f\n", with, without, with / without);
+        return 0;
+    }
+    printf("%llu\n", (unsigned long long)answered(&w, strcmp(argv[1], "crate") == 0 ? probe_locate : plain_locate, count));
+    return 0;
+}

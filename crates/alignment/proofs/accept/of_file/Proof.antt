@@ -1,0 +1,21 @@
+-- `alignment::accept::of_file` meets its contract.
+use borrow.Author.Needs.{needs}
+use Rattle.alignment.proofs.AcceptRecords.{blocks-hold, file-of}
+use Rattle.alignment.proofs.accept.of_file.Statement.{statement}
+use Rattle.alignment.proofs.accept.of_file.Tie as tie
+
+record-count-requires : tie.Need-record-count-requires
+record-count-requires c κs = search needs
+
+gather-requires : tie.Need-gather-requires
+gather-requires c κs = rw (c .record-count .ensures) (blocks-hold (c .before .before .args .file .now) (c .before .before .pre .0))
+
+returns : tie.Need-returns
+returns c =
+    let n = c .before .record-count .ensures in
+    let s = c .before .before .before in
+    let g = rw n at (c .gather .ensures) in
+    file-of (s .args .file .now) (s .pre .0) (s .pre .1) (g .0) (g .1)
+
+pub of-file-spec : {M : Type 1} → statement M
+of-file-spec = tie.close (tie.spec record-count-requires gather-requires returns)

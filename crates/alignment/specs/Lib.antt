@@ -1,0 +1,4 @@
+pub mod Joins
+pub mod Gathered
+pub mod Accepts
+pub mod Lent

@@ -1,0 +1,137 @@
+// An alignment by value from bytes, and the check of a file.
+use crate::joins::check_joins;
+use crestfile::check::check_blocks;
+use crestfile::check::check_records;
+use crestfile::check::part_at;
+use crestfile::check::record_count;
+use model::Alignment;
+use model::Element;
+use model::Kind;
+use model::Outcome;
+use model::Refusal;
+ghost use mathlib.Core.Bool.{true, false};
+ghost use mathlib.Core.Path.{_≡_};
+ghost use Prim.Native.Nat.{_<_};
+ghost use lib.ListN.{length};
+ghost use Rattle.model.specs.Records.{countOf, recordOf, recordBytes};
+ghost use Rattle.model.specs.Refusals.{verdict, forEach};
+ghost use Rattle.model.specs.Acceptance.{blocksRules, recordRules, elementsOf, crestElements, checked};
+ghost use Rattle.model.specs.Stations.{used};
+ghost use Rattle.model.specs.Writer.{countFits};
+ghost use Rattle.alignment.specs.Gathered.{startIn, gathered, Holds};
+ghost use Rattle.alignment.specs.Accepts.{emptyAlignment, Of, Accepts};
+
+// What the check of a file comes to, and the alignment of a file that is accepted; that of a refused one is empty.
+pub struct Acceptance {
+    pub outcome: Outcome,
+    pub alignment: Alignment,
+}
+
+// Where record r starts: in the blocks of a file, or in record bytes.
+pub fn start_in(blocks: bool, r: usize) -> usize
+    requires { ⌜ r < 60 ⌝ }
+    ensures { λ n. ⌜ n ≡ startIn blocks r ⌝ }
+{
+    if blocks {
+        512 * (r / 15) + 32 * (r % 15)
+    } else {
+        32 * r
+    }
+}
+
+// No elements.
+fn empty() -> Alignment
+    ensures { λ a. ⌜ a ≡ emptyAlignment ⌝ }
+{
+    let none = Element {
+        kind: Kind::Line,
+        length: 0,
+        x: 0,
+        y: 0,
+        c: 0,
+        s: 0,
+        radius: 0,
+    };
+    Alignment {
+        elements: [none; 60],
+        count: 0,
+    }
+}
+
+// The elements of the first n records.
+fn gather(bytes: &[u8], blocks: bool, n: usize) -> Alignment
+    requires { ⌜ Holds blocks n (now bytes) ⌝ }
+    ensures { λ a. ⌜ (used a ≡ gathered blocks n 0 (now (bytes .entry))) × (a .count ≡ n) ⌝ }
+{
+    let mut els = empty().elements;
+    let mut r = 0;
+    while r < n {
+        els[r] = crestfile::record::element(part_at(bytes, start_in(blocks, r), 32));
+        r += 1;
+    }
+    Alignment {
+        elements: els,
+        count: n,
+    }
+}
+
+// The alignment of 1 to 60 records that refuse nothing.
+pub fn of_records(records: &[u8]) -> Alignment
+    requires { ⌜ countFits (length (now records)) ≡ true ⌝ }
+    requires { ⌜ verdict (forEach (λ r. recordRules (recordOf (now records) r) r) (countOf (now records)) 0) ≡ Outcome.Done ⌝ }
+    ensures { λ a. ⌜ Of (elementsOf (now (records .entry))) a ⌝ }
+{
+    gather(records, false, records.len() / 32)
+}
+
+// The alignment of a file whose blocks and records refuse nothing.
+pub fn of_file(file: &[u8]) -> Alignment
+    requires { ⌜ verdict (blocksRules (now file)) ≡ Outcome.Done ⌝ }
+    requires { ⌜ verdict (forEach (λ r. recordRules (recordOf (recordBytes (now file)) r) r) (countOf (recordBytes (now file))) 0) ≡ Outcome.Done ⌝ }
+    ensures { λ a. ⌜ Of (crestElements (now (file .entry))) a ⌝ }
+{
+    gather(file, true, record_count(file))
+}
+
+// The acceptance of a file that is refused.
+fn not_accepted(x: Refusal) -> Acceptance
+    ensures { λ r. ⌜ r ≡ record { outcome = Outcome.Refused x; alignment = emptyAlignment } ⌝ }
+{
+    let a = empty();
+    Acceptance {
+        outcome: Outcome::Refused(x),
+        alignment: a,
+    }
+}
+
+// 1 to 9, with the alignment of a file that is accepted.
+pub fn accept(file: &[u8]) -> Acceptance
+    ensures { λ r. ⌜ Accepts (now (file .entry)) r ⌝ }
+{
+    match check_blocks(file) {
+        Outcome::Refused(layout) => return not_accepted(layout),
+        Outcome::Done => {}
+    }
+    match check_records(file) {
+        Outcome::Refused(records) => return not_accepted(records),
+        Outcome::Done => {}
+    }
+    let a = of_file(file);
+    match check_joins(a) {
+        Outcome::Refused(joins) => return not_accepted(joins),
+        Outcome::Done => {}
+    }
+    Acceptance {
+        outcome: Outcome::Done,
+        alignment: a,
+    }
+}
+
+// 1 to 9: of any bytes.
+pub fn check(file: &[u8]) -> Outcome
+    ensures { λ o. ⌜ o ≡ checked (now (file .entry)) ⌝ }
+{
+    let r = accept(file);
+    let o = r.outcome;
+    o
+}

@@ -1,0 +1,49 @@
+// The writer: the file of record bytes, into lent room.
+use crate::accept::of_records;
+use crate::joins::check_joins;
+use crestfile::check::check_record_bytes;
+use crestfile::record::refused;
+use crestfile::write::count_fits;
+use crestfile::write::write_blocks;
+use model::Outcome;
+ghost use mathlib.Core.Path.{_≡_};
+ghost use lib.ListN.{length};
+ghost use Rattle.model.specs.Writer.{writerOutcome, written};
+
+// 17, 4 to 9, 18: what the writer comes to, for room of this length.
+fn outcome_of(records: &[u8], room: usize) -> Outcome
+    ensures { λ o. ⌜ o ≡ writerOutcome (now (records .entry)) room ⌝ }
+{
+    let len = records.len();
+    let needed = 512 * ((len / 32 + 14) / 15);
+    let fits = count_fits(len);
+    if !fits {
+        return refused(17, 0);
+    }
+    match check_record_bytes(records) {
+        Outcome::Refused(own) => return Outcome::Refused(own),
+        Outcome::Done => {}
+    }
+    match check_joins(of_records(records)) {
+        Outcome::Refused(join) => return Outcome::Refused(join),
+        Outcome::Done => {}
+    }
+    if room < needed {
+        return refused(18, 0);
+    }
+    Outcome::Done
+}
+
+// The file of these records at the front of the room; a refusal leaves the room as it came.
+pub fn write(records: &[u8], room: &mut [u8]) -> Outcome
+    ensures { λ o. ⌜ o ≡ writerOutcome (now (records .entry)) (length (now (room .entry))) ⌝ }
+    ensures { λ _. ⌜ now (room .exit) ≡ written (now (records .entry)) (now (room .entry)) ⌝ }
+{
+    match outcome_of(records, room.len()) {
+        Outcome::Refused(x) => Outcome::Refused(x),
+        Outcome::Done => {
+            write_blocks(records, room);
+            Outcome::Done
+        }
+    }
+}

@@ -1,0 +1,4 @@
+-- The laws that belong to no one function.
+pub mod Outside
+pub mod Numbers
+pub mod Crest

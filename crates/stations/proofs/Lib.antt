@@ -1,0 +1,13 @@
+-- The laws of the functions over an accepted alignment.
+pub mod StationTotal
+pub mod StationAt
+pub mod StationRange
+pub mod StationHeld
+pub mod StationExtent
+pub mod StationAnswers
+pub mod InverseAnswers
+pub mod StationBytes
+pub mod AskAnswers
+pub mod AskSmall
+pub mod StakeMachine
+pub mod StakeAnswers

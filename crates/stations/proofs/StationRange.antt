@@ -1,0 +1,55 @@
+-- What a test of a station says: a negative number is none, and any other is one up to T. A station is cast to a u64 as it is.
+use Prim.Native.Nat.{_≤_, _<_, _^_}
+use mathlib.Core.Bool.{true, false, and-eq-true-iff}
+use mathlib.Core.List.{List}
+use mathlib.Core.Path.{_≡_, refl, sym, subst}
+use native.Mathlib.Omega.{arith}
+use borrow.Author.Tests.{leb-true, ltb-true}
+use lib.Dec.{T, leb, leb→le}
+use lib.IntN.{ℤ, pos, negsuc, natAbs}
+use lib.Signed.{nonNeg, ltZ}
+use mir.Facts.{toZ-ofZ, and-yes}
+use mir.Syntax.{w64}
+use mir.Val.{Fits, SFits, toZ, ofZ}
+use Rattle.model.specs.declared.Element.{Element}
+use Rattle.model.specs.Acceptance.{frame, inFrame}
+use Rattle.model.specs.Stations.{isStation, total}
+
+negative : (s : ℤ) → ltZ s (pos 0) ≡ true → nonNeg s ≡ false
+negative (pos n) h = let k : n < 0 = ltb-true n 0 h in absurd (omega arith)
+negative (negsuc n) h = refl
+
+pub not-negative : (s : ℤ) → ltZ s (pos 0) ≡ false → nonNeg s ≡ true
+not-negative (pos n) h = refl
+not-negative (negsuc n) h = sym h
+
+module _ (es : List Element) (s : ℤ) where
+  pub before-start : ltZ s (pos 0) ≡ true → isStation es s ≡ false
+  unfolding isStation
+  before-start h = rw (negative s h)
+
+  pub from-start : ltZ s (pos 0) ≡ false → isStation es s ≡ leb (natAbs s) (total es)
+  unfolding isStation
+  from-start h = rw (not-negative s h)
+
+  pub station-within : isStation es s ≡ true → T (nonNeg s) × (natAbs s ≤ total es)
+  unfolding isStation
+  station-within h =
+      let g = and-yes (nonNeg s) (leb (natAbs s) (total es)) (subst T (sym h) tt) in
+      (g .0, leb→le (natAbs s) (total es) (g .1))
+
+cast-fits : (z : ℤ) → SFits w64 z → T (nonNeg z) → T (nonNeg z) × Fits w64 (natAbs z)
+cast-fits (pos n) f t = (tt, record { fits = let k : n < 2 ^ 63 = f .sfits in omega arith })
+cast-fits (negsuc n) f t = absurd t
+
+-- a number that is not negative, cast from an i64
+pub held-casts : {z : ℤ} → SFits w64 z → T (nonNeg z) → T (nonNeg (toZ w64 (ofZ w64 z))) × Fits w64 (natAbs (toZ w64 (ofZ w64 z)))
+held-casts {z} f t = rw (toZ-ofZ f) (cast-fits z f t)
+
+-- ---- a point of the frame
+
+pub framed : (x y : ℤ) → inFrame x y ≡ true → (natAbs x ≤ frame) × (natAbs y ≤ frame)
+unfolding inFrame
+framed x y h =
+    let g = and-eq-true-iff (leb (natAbs x) frame) (leb (natAbs y) frame) .0 h in
+    (leb-true (natAbs x) frame (g .0), leb-true (natAbs y) frame (g .1))

@@ -1,0 +1,102 @@
+-- `stations::inverse_at` meets its contract: each coordinate fits, and is the definition's.
+use mathlib.Core.Path.{_≡_, ap, ap₂, _∙_}
+use native.Mathlib.Omega.{arith}
+use Prim.Native.Nat.{_≤_, _<_, _^_}
+use borrow.Author.Needs.{needs}
+use lib.IntN.{ℤ, natAbs, _+ℤ_, _-ℤ_, _*ℤ_}
+use Rattle.integers.proofs.Abs.{natAbs-+, natAbs--}
+use Rattle.model.specs.declared.Point.{Point}
+use Rattle.model.specs.Rounding.{ONE, near}
+use Rattle.model.specs.Stations.{used, positionAt, tangentAt}
+use Rattle.model.specs.Answers.{widestOffset, inverseAt}
+use Rattle.elements.specs.declared.Placement.{Placement}
+use Rattle.elements.specs.Reached.{placementOf}
+use Rattle.elements.proofs.Widths.{held, held-small}
+use Rattle.stations.proofs.StationExtent.{Bounded, station-bounded, near-aside-within}
+use Rattle.stations.proofs.StationHeld.{held-as, Computed, computed}
+use Rattle.stations.proofs.inverse_at.Statement.{statement}
+use Rattle.stations.proofs.inverse_at.Tie as tie
+
+-- the position and the direction at the station
+module _ (c : tie.Start) where
+  abbrev p : Point
+  p = positionAt (used (c .args .a)) (c .args .s)
+
+  abbrev t : Point
+  t = tangentAt (used (c .args .a)) (c .args .s)
+
+  bounds : Bounded (used (c .args .a)) (c .args .s)
+  bounds = station-bounded (used (c .args .a)) (c .args .s) (c .pre .0 .each) (c .pre .1 .0)
+
+  -- an offset along a component: what is asked, and how large it is
+  module _ {u v : ℤ} (e : u ≡ v) (h : natAbs v < 2 ^ 31) where
+    asked : (natAbs (held (c .args .w)) ≤ widestOffset) × (natAbs (held u) < 2 ^ 31)
+    asked = (
+      omega (arith, ap natAbs (held-small (c .args .w) (omega (arith, c .pre .1 .1))), c .pre .1 .1),
+      omega (arith, ap natAbs (held-as e (omega arith)), h),
+    )
+
+    moved : {r : ℤ} → r ≡ near (held (c .args .w) *ℤ held u) ONE → r ≡ near (c .args .w *ℤ v) ONE
+    moved q = q ∙ ap (λ (z : ℤ). near z ONE) (ap₂ _*ℤ_ (held-small (c .args .w) (omega (arith, c .pre .1 .1))) (held-as e (omega (arith, h))))
+
+placed-at-requires : tie.Need-placed-at-requires
+placed-at-requires c κs = search needs
+
+module _ (c : tie.After-placed-at) where
+  abbrev is : (f : Placement → ℤ) → f (c .placed-at .result) ≡ f (placementOf (p (c .before)) (t (c .before)))
+  is f = ap f (c .placed-at .ensures)
+
+  is-tx : c .placed-at .result .tx ≡ t (c .before) .x
+  is-tx = is (λ (q : Placement). q .tx)
+
+  is-ty : c .placed-at .result .ty ≡ t (c .before) .y
+  is-ty = is (λ (q : Placement). q .ty)
+
+aside-requires : tie.Need-aside-requires
+aside-requires c κs = asked (c .before .before) (is-ty (c .before)) (bounds (c .before .before) .ty)
+
+module _ (c : tie.After-aside) where
+  abbrev o : tie.After-placed-at
+  o = c .before .before
+
+  -- X less the offset along Ty
+  less : Computed _-ℤ_ (p (o .before) .x) (near (o .before .args .w *ℤ t (o .before) .y) ONE) (o .placed-at .result .x) (c .aside .result)
+  less =
+      let s = o .before in
+      let b = bounds s in
+      let m = near (s .args .w *ℤ t s .y) ONE in
+      let k = near-aside-within (s .args .w) (t s .y) (s .pre .1 .1) (b .ty) in
+      computed _-ℤ_ (is o (λ (q : Placement). q .x)) (moved s (is-ty o) (b .ty) (c .aside .ensures)) (omega (arith, b .x)) (omega (arith, k)) (omega (arith, natAbs-- (p s .x) m, b .x, k))
+
+aside-requires-2 : tie.Need-aside-requires-2
+aside-requires-2 c κs =
+    let x = o (c .before) in
+    asked (x .before) (is-tx x) (bounds (x .before) .tx)
+
+-- Y with the offset along Tx
+more : (c : tie.After-aside2) → let x = o (c .before .before) in Computed _+ℤ_ (p (x .before) .y) (near (x .before .args .w *ℤ t (x .before) .x) ONE) (x .placed-at .result .y) (c .aside2 .result)
+more c =
+    let x = o (c .before .before) in
+    let s = x .before in
+    let b = bounds s in
+    let m = near (s .args .w *ℤ t s .x) ONE in
+    let k = near-aside-within (s .args .w) (t s .x) (s .pre .1 .1) (b .tx) in
+    computed _+ℤ_ (is x (λ (q : Placement). q .y)) (moved s (is-tx x) (b .tx) (c .aside2 .ensures)) (omega (arith, b .y)) (omega (arith, k)) (omega (arith, natAbs-+ (p s .y) m, b .y, k))
+
+sub-t7 : tie.Need-sub-t7
+sub-t7 c = less (c .before .before .before .before) .fits
+
+add-t8 : tie.Need-add-t8
+add-t8 c = more (c .before .before .before .before) .fits
+
+returns : tie.Need-returns
+unfolding inverseAt
+returns c =
+    let d = c .before .before .before .before in
+    let y = more d .is in
+    let x = less (d .before .before) .is in
+    rw (x, y)
+
+pub inverse-at-spec : {M : Type 1} → statement M
+inverse-at-spec =
+    tie.close (tie.spec placed-at-requires aside-requires aside-requires-2 sub-t7 add-t8 returns)

@@ -7,19 +7,20 @@ use Rattle.model.specs.declared.Element.{Element}
 use Rattle.model.specs.declared.Alignment.{Alignment}
 use Rattle.model.specs.declared.Refusal.{Refusal}
 use Rattle.model.specs.declared.Outcome.the-variants.{Done, Refused}
+use Rattle.model.specs.Records.{mostRecords}
 use Rattle.model.specs.Acceptance.{checked, crestElements}
 use Rattle.model.specs.Stations.{used, noElement}
 use Rattle.model.specs.Accepted.{AlignmentAccepted}
 use Rattle.alignment.specs.declared.accept.Acceptance.{Acceptance}
 
--- an accepted alignment by value of these elements
+-- an alignment of the elements of record bytes or of a file; what its array holds from `count` on is left free, and nothing reads it
 pub record Of (es : List Element) (a : Alignment) : Type 0 where
   pub elements : used a ≡ es
   pub accepted : AlignmentAccepted a
 
 -- no elements
 abbrev pub emptyAlignment : Alignment
-emptyAlignment = record { elements = replicate 60 noElement; count = 0 }
+emptyAlignment = record { elements = replicate mostRecords noElement; count = 0 }
 
 -- "An alignment is accepted when no refusal of its own bytes applies, here 1 to 9."
 pub record Accepts (file : List ℕ) (r : Acceptance) : Type 0 where

@@ -4,7 +4,7 @@ use mathlib.Core.Bool.{Bool, true, false}
 use mathlib.Core.List.{List, [], _∷_}
 use lib.ListN.{length}
 use Rattle.model.specs.declared.Element.{Element}
-use Rattle.model.specs.Records.{part, recordSize, recordStart}
+use Rattle.model.specs.Records.{mostRecords, part, recordSize, recordStart}
 use Rattle.model.specs.Acceptance.{elementOf}
 
 -- where record r, "counted from 0 over all blocks", starts: in the blocks of a file, or in record bytes
@@ -20,5 +20,5 @@ gathered blocks (suc n) r bytes = elementOf (part bytes (startIn blocks r) recor
 
 -- the bytes hold n records, as many as an alignment may have
 pub record Holds (blocks : Bool) (n : ℕ) (bytes : List ℕ) : Type 0 where
-  pub most : n ≤ 60
+  pub most : n ≤ mostRecords
   pub within : (r : ℕ) → r < n → startIn blocks r + recordSize ≤ length bytes

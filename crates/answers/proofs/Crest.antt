@@ -14,7 +14,7 @@ use Rattle.model.specs.Refusals.{Rule, verdict}
 use Rattle.model.specs.Acceptance.{checked, crestRules, crestElements}
 use Rattle.model.specs.Judged.{judged}
 use Rattle.model.specs.Answers.{pointRules, locatedIf, locatedAfter, lineRules, inverseIf, inverseAfter}
-use Rattle.model.specs.Readings.{answerTo, fromLocated, fromInverse, numberRules, wholeOf, valueOf}
+use Rattle.model.specs.Readings.{answerTo, answerAfter, fromLocated, fromInverse, numberRules, wholeOf, valueOf}
 use Rattle.model.proofs.Verdict.{verdict-after, refused-before}
 use Rattle.model.proofs.Answers.{located-before, inverse-before}
 use Rattle.answers.specs.Taken.{answerOn}
@@ -24,7 +24,7 @@ after-both : (rs ss ts : List Rule) → verdict rs ≡ Done → verdict ((rs ++ 
 after-both rs ss ts e = ap verdict (append-assoc rs ss ts) ∙ verdict-after rs (ss ++ ts) e
 
 pub answer-on : (file : List ℕ) (r : Reading) → checked file ≡ Done → answerOn (crestElements file) r ≡ answerTo file r
-unfolding answerOn answerTo locatedAfter inverseAfter checked
+unfolding answerTo answerAfter locatedAfter inverseAfter checked
 answer-on file (PlanePoint x y) e =
     let es = crestElements file in
     let p : Point = record { x = valueOf (wholeOf x); y = valueOf (wholeOf y) } in
@@ -37,7 +37,7 @@ answer-on file (LinePlace station offset) e =
     ap (λ o. fromInverse (inverseIf o es s w)) (sym (after-both (crestRules file) (numberRules station offset) (lineRules es s w) e))
 
 pub answer-refused : (file : List ℕ) (r : Reading) {why : Refusal} → checked file ≡ Refused why → AnswerRefused why ≡ answerTo file r
-unfolding answerTo fromLocated fromInverse checked
+unfolding answerTo answerAfter fromLocated fromInverse checked
 answer-refused file (PlanePoint x y) e =
     ap fromLocated (sym (located-before (crestRules file ++ numberRules x y) (crestElements file) (record { x = valueOf (wholeOf x); y = valueOf (wholeOf y) }) (refused-before (crestRules file) (numberRules x y) e)))
 answer-refused file (LinePlace station offset) e =

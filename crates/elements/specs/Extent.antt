@@ -4,6 +4,7 @@ use lib.IntN.{natAbs}
 use Rattle.model.specs.declared.Element.{Element}
 use Rattle.model.specs.declared.Point.{Point}
 use Rattle.model.specs.Rounding.{ONE}
+use Rattle.model.specs.Acceptance.{frame}
 use Rattle.model.specs.Series.{angleAt, localAt, directionAt, positionOn, tangentOn}
 use Rattle.model.specs.Stations.{distanceSq}
 
@@ -23,4 +24,4 @@ pub record Extent (e : Element) (at : ℕ) : Type 0 where
   pub tx : natAbs (tangentOn e at .x) < 2 ^ 31
   pub ty : natAbs (tangentOn e at .y) < 2 ^ 31
   -- the squared distance from a point in the frame
-  pub distance : (p : Point) → natAbs (p .x) ≤ 200000000 → natAbs (p .y) ≤ 200000000 → distanceSq p (positionOn e at) < 2 ^ 62
+  pub distance : (p : Point) → natAbs (p .x) ≤ frame → natAbs (p .y) ≤ frame → distanceSq p (positionOn e at) < 2 ^ 62

@@ -2,6 +2,7 @@
 use Prim.Native.Nat.{ℕ, _%_, _^_, _<_, _≤_}
 use mathlib.Core.Path.{_≡_}
 use lib.IntN.{ℤ, pos, natAbs}
+use Rattle.model.specs.Acceptance.{longestElement, frame}
 use Rattle.model.specs.Rounding.{ONE}
 use Rattle.model.specs.Series.{Series, seriesAlong, seriesAside, cosine, sine, angleAt, localAt, turned, movedBy}
 use Rattle.model.specs.declared.Element.{Element}
@@ -22,7 +23,7 @@ pub record Factorable (square a b d : ℕ) : Type 0 where
 
 -- what the series ask of a length in mm, an angle and a sign
 pub record Curved (length angle negative : ℕ) : Type 0 where
-  pub longest : length ≤ 500000
+  pub longest : length ≤ longestElement
   pub widest : angle ≤ 2 ^ 29
   pub sign : negative ≤ 1
 
@@ -67,7 +68,7 @@ pub record Near (r : Reach) : Type 0 where
 
 -- what a coordinate asks of its numbers
 pub record Turnable (x a : ℤ) (u : ℕ) (b : ℤ) (v : ℕ) : Type 0 where
-  pub anchor : natAbs x ≤ 200000000
+  pub anchor : natAbs x ≤ frame
   pub first : natAbs a ≤ ONE
   pub second : natAbs b ≤ ONE
   pub along : u ≤ ONE

@@ -13,7 +13,7 @@ use Rattle.model.specs.declared.Element.{Element}
 use Rattle.model.specs.declared.Point.{Point}
 use Rattle.model.specs.declared.Outcome.{Outcome}
 use Rattle.model.specs.Kinds.{decide}
-use Rattle.model.specs.Records.{byteAt, u16At, u32At, i32At, part, allZero, sumA, sumB, recordSize, recordsEnd, perBlock, blockCount, blockOf, usedIn, recordBytes, countOf, recordOf}
+use Rattle.model.specs.Records.{byteAt, u16At, u32At, i32At, part, allZero, sumA, sumB, recordSize, recordsEnd, sumsAt, edition, zerosAt, zeroCount, perBlock, blockCount, blockOf, usedIn, recordBytes, countOf, recordOf}
 use Rattle.model.specs.Refusals.{Rule, rule, rule₀, verdict, forEach, byteCount, checksum, blockField, damagedRecord, laterKind, fieldOutOfRange, notUnit, gap, kink}
 use Rattle.model.specs.Series.{positionOn, tangentOn}
 
@@ -151,7 +151,7 @@ lengthFits n = eqb n 512 || eqb n 1024 || eqb n 1536 || eqb n 2048
 -- "a block's A or B is wrong"
 unfoldable pub sumsAgree : List ℕ → Bool
 unfolding sumA sumB
-sumsAgree block = eqb (u16At block 508) (sumA block) && eqb (u16At block 510) (sumB block)
+sumsAgree block = eqb (u16At block sumsAt) (sumA block) && eqb (u16At block (sumsAt + 2)) (sumB block)
 
 -- "Every block but the last uses 15 records, the last 1 to 15": of block b of n
 unfoldable pub useFits : ℕ → ℕ → ℕ → Bool
@@ -161,10 +161,10 @@ useFits n b used = cond (eqb (b + 1) n) (leb 1 used && leb used perBlock) (eqb u
 unfoldable pub fieldsFit : ℕ → ℕ → List ℕ → Bool
 unfolding useFits allZero
 fieldsFit n b block =
-    eqb (u16At block 480) b
+    eqb (u16At block recordsEnd) b
     && useFits n b (usedIn block)
-    && eqb (u32At block 484) 1
-    && allZero (part block 488 20)
+    && eqb (u32At block 484) edition
+    && allZero (part block zerosAt zeroCount)
     && allZero (part block (recordSize * usedIn block) (recordsEnd - recordSize * usedIn block))
 
 unfoldable pub sumRules : List ℕ → ℕ → List Rule

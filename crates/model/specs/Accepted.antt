@@ -5,6 +5,7 @@ use mathlib.Core.List.{List, [], _∷_}
 use mathlib.Core.Path.{_≡_}
 use Rattle.model.specs.declared.Element.{Element}
 use Rattle.model.specs.declared.Alignment.{Alignment}
+use Rattle.model.specs.Records.{mostRecords}
 use Rattle.model.specs.Acceptance.{rangesGood, isUnit}
 use Rattle.model.specs.Stations.{used}
 
@@ -17,8 +18,8 @@ unfoldable pub AllAccepted : List Element → Type 0
 AllAccepted [] = Unit {0}
 AllAccepted (e ∷ es) = Accepted e × AllAccepted es
 
--- An alignment by value as an accepted crest gives it: 1 to 60 elements, each accepted.
+-- An alignment by value of 1 to 60 elements, each of which is refused with none of 4 to 7; its joins are not asked about.
 pub record AlignmentAccepted (a : Alignment) : Type 0 where
   pub some : 1 ≤ a .count
-  pub most : a .count ≤ 60
+  pub most : a .count ≤ mostRecords
   pub each : AllAccepted (used a)

@@ -25,6 +25,20 @@ perBlock = 15
 abbrev pub recordsEnd : ℕ
 recordsEnd = 480
 
+-- "A crest alignment is 1 to 60 elements"
+abbrev pub mostRecords : ℕ
+mostRecords = 60
+
+-- "484: edition, u32, is 1. 488 to 507: zero."
+abbrev pub edition : ℕ
+edition = 1
+
+abbrev pub zerosAt : ℕ
+zerosAt = 488
+
+abbrev pub zeroCount : ℕ
+zeroCount = 20
+
 -- the sums stand last, and sum what is before them
 abbrev pub sumsAt : ℕ
 sumsAt = 508

@@ -6,7 +6,7 @@ use lib.ListN.{length, take, drop, replicate}
 use lib.Dec.{leb, eqb}
 use Rattle.model.specs.declared.Outcome.{Outcome}
 use Rattle.model.specs.declared.Outcome.the-variants.{Done, Refused}
-use Rattle.model.specs.Records.{blockSize, recordSize, recordsEnd, perBlock, put, u16Bytes, u32Bytes, sumA, sumB, countOf}
+use Rattle.model.specs.Records.{blockSize, recordSize, mostRecords, edition, zeroCount, recordsEnd, perBlock, put, u16Bytes, u32Bytes, sumA, sumB, countOf}
 use Rattle.model.specs.Refusals.{Rule, rule₀, verdict, recordCount, wrongRoom}
 use Rattle.model.specs.Acceptance.{recordsRules}
 
@@ -15,7 +15,7 @@ use Rattle.model.specs.Acceptance.{recordsRules}
 -- Bytes 0 to 507 of block b, whose records are the given bytes, 15 at most: the records, zero up to 480, "480: block number .. 482: records in use .. 484: edition, u32, is 1. 488 to 507: zero."
 unfoldable pub blockBody : ℕ → List ℕ → List ℕ
 blockBody b records =
-    records ++ (replicate (recordsEnd - length records) 0 ++ (u16Bytes b ++ (u16Bytes (countOf records) ++ (u32Bytes 1 ++ replicate 20 0))))
+    records ++ (replicate (recordsEnd - length records) 0 ++ (u16Bytes b ++ (u16Bytes (countOf records) ++ (u32Bytes edition ++ replicate zeroCount 0))))
 
 -- "508: A .. 510: B": the body with its two sums
 unfoldable pub withSums : List ℕ → List ℕ
@@ -43,7 +43,7 @@ fileOf records = blocksFrom (blocksNeeded records) 0 records
 
 -- "writer's record bytes not 32 times 1 to 60"
 unfoldable pub countFits : ℕ → Bool
-countFits n = eqb (n % recordSize) 0 && leb 1 (n / recordSize) && leb (n / recordSize) 60
+countFits n = eqb (n % recordSize) 0 && leb 1 (n / recordSize) && leb (n / recordSize) mostRecords
 
 -- "The writer gives 17, 4 to 9, 18": for room of the given length
 unfoldable pub writerRules : List ℕ → ℕ → List Rule

@@ -8,3 +8,11 @@ pub mod Reasons
 pub mod Crest
 pub mod Outcomes
 pub mod Demand3
+pub mod Arrays
+pub mod Seeing
+pub mod Passing
+pub mod Found
+pub mod Seeking
+pub mod Placing
+pub mod Deciding
+pub mod Fitting

@@ -55,7 +55,7 @@ pub record Answered (es : List Element) (p : Point) (at : ℕ) (w r : ℤ) (n : 
 
 -- ---- what the tests compute
 
-at-end-fails : (s t : ℕ) (a b : ℤ) → (not (eqb s t && ltZ a b) ≡ false) ↔ ((s ≡ t) × (a <ℤ b))
+pub at-end-fails : (s t : ℕ) (a b : ℤ) → (not (eqb s t && ltZ a b) ≡ false) ↔ ((s ≡ t) × (a <ℤ b))
 at-end-fails s t a b = (
   (λ e. let x = and-yes (eqb s t) (ltZ a b) (subst T (sym (not-false (eqb s t && ltZ a b) e)) tt) in (eqb→eq s t (x .0), ltZ-yes (x .1))),
   (λ x. ap not (is-true (eqb s t && ltZ a b) (yes-and (eqb s t) (ltZ a b) (yes-eqb (x .0)) (x .1 .lt)))),

@@ -10,12 +10,12 @@ use Rattle.model.specs.Series.{positionOn}
 use Rattle.model.specs.Stations.{AtElement, atStation, total, positionAt, distanceSq, D}
 use Rattle.model.specs.Walk.{ownStations}
 
-at-first : (e : Element) (es : List Element) (s : ℕ) → s < ownStations e es → atStation (e ∷ es) s ≡ record { element = e; s = s }
+pub at-first : (e : Element) (es : List Element) (s : ℕ) → s < ownStations e es → atStation (e ∷ es) s ≡ record { element = e; s = s }
 unfolding atStation ownStations
 at-first e [] s h = refl
 at-first e (f ∷ es) s h = rw (lt-ltb s (e .length) h)
 
-at-later : (e f : Element) (es : List Element) (s : ℕ) → atStation (e ∷ f ∷ es) (e .length + s) ≡ atStation (f ∷ es) s
+pub at-later : (e f : Element) (es : List Element) (s : ℕ) → atStation (e ∷ f ∷ es) (e .length + s) ≡ atStation (f ∷ es) s
 unfolding atStation
 at-later e f es s =
     let past : e .length ≤ e .length + s = omega arith in

@@ -90,7 +90,7 @@ unfolding bestOf
 
 -- ---- the first pass
 
-multiples-rise : (hi n s : ℕ) → s + 1000 * n ≤ hi + 999 → Rising hi s (multiplesFrom n s)
+pub multiples-rise : (hi n s : ℕ) → s + 1000 * n ≤ hi + 999 → Rising hi s (multiplesFrom n s)
 unfolding multiplesFrom
 multiples-rise hi zero s h = none
 multiples-rise hi (suc n) s h = next s (le-refl s) (omega arith) (rising-from {mid = s + 1000} (omega arith) (multiples-rise hi n (s + 1000) (omega arith)))

@@ -1,15 +1,80 @@
 // Station and offset of a point by the published walk.
+use model::Alignment;
+use model::Located;
+use model::Point;
+use model::Refusal;
 ghost use mathlib.Core.Path.{_≡_};
-ghost use Rattle.model.specs.Walk.{skipped};
+ghost use Rattle.model.specs.Accepted.{AlignmentAccepted};
+ghost use Rattle.model.specs.Stations.{used};
+ghost use Rattle.model.specs.Answers.{locatedOn};
+ghost use Rattle.nearest.specs.Search.{InFrame, walkedOf};
 
-// How many stations the second pass leaves out after one at the squared distance `here`, where the least so far is `best`.
-pub fn left_out(here: u64, best: u64) -> u64
-    ensures { λ r. ⌜ r ≡ skipped here best ⌝ }
+mod passes;
+mod sides;
+mod visit;
+
+// The two passes of the walk.
+pub enum Pass {
+    First,
+    Second,
+}
+
+// What the walk has seen: the least squared distance, the least station that has it, and how many stations were visited.
+pub struct Seen {
+    pub best: u64,
+    pub at: u64,
+    pub visits: u64,
+}
+
+// The walk. Station 0 is visited first and lies nearer than the best that it starts with, 2^62.
+pub fn walk(a: Alignment, q: Point) -> Seen
+    requires { ⌜ AlignmentAccepted a ⌝ }
+    requires { ⌜ InFrame q ⌝ }
+    ensures { λ r. ⌜ r ≡ walkedOf (used a) q ⌝ }
 {
-    let a = integers::whole_root(here);
-    let b = integers::whole_root(best);
-    if a < b + 31 {
-        return 0;
+    let w = passes::pass_over(
+        Pass::First,
+        a,
+        q,
+        Seen {
+            best: 4611686018427387904,
+            at: 0,
+            visits: 0,
+        },
+    );
+    passes::pass_over(Pass::Second, a, q, w)
+}
+
+// The refusal with this number.
+fn refused(number: u32) -> Located
+    ensures { λ r. ⌜ r ≡ Located.Refused (record { number = number; place = 0 }) ⌝ }
+{
+    Located::Refused(Refusal { number, place: 0 })
+}
+
+// Station and offset of a point, with the residual and the count of visits, or the refusal: 11, 12, 13, 14, in this order.
+pub fn locate(a: Alignment, q: Point) -> Located
+    requires { ⌜ AlignmentAccepted a ⌝ }
+    ensures { λ r. ⌜ r ≡ locatedOn (used a) q ⌝ }
+{
+    if !crestfile::record::in_frame(q.x, q.y) {
+        return refused(11);
     }
-    (a - b - 31) / 150
+    let w = walk(a, q);
+    if w.best > 400000000000000 {
+        return refused(12);
+    }
+    let d = sides::to_point(stations::placed_at(a, w.at), q);
+    if sides::before_start(w.at, d.residual) {
+        return refused(13);
+    }
+    if sides::after_end(w.at, stations::total(a), d.residual) {
+        return refused(14);
+    }
+    Located::At {
+        station: w.at,
+        offset: d.offset,
+        residual: d.residual,
+        visits: w.visits,
+    }
 }

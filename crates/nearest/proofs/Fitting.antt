@@ -1,0 +1,73 @@
+-- An answer fits 32 bits: the station is on the alignment, and the point lies at most 20,000,000 grains from the position, along and aside.
+use mathlib.Core.List.{List}
+use mathlib.Core.Path.{_≡_, ap}
+use Prim.Native.Nat.{ℕ, _+_, _*_, _^_, _≤_, _<_}
+use native.Mathlib.Omega.{arith}
+use native.Mathlib.Nat.{mul-le-mul, le-of-lt}
+use lib.ListN.{length}
+use lib.IntN.{ℤ, natAbs, _+ℤ_, _-ℤ_, _*ℤ_}
+use Rattle.integers.specs.Plane.{squared}
+use Rattle.integers.proofs.Abs.{natAbs-+, natAbs--, natAbs-*, ≤-square}
+use Rattle.model.specs.declared.Element.{Element}
+use Rattle.model.specs.declared.Point.{Point}
+use Rattle.model.specs.declared.Located.the-variants.{At as LocatedAt}
+use Rattle.model.specs.Rounding.{ONE}
+use Rattle.model.specs.Accepted.{AllAccepted}
+use Rattle.model.specs.Stations.{positionAt, tangentAt, distanceSq, D}
+use Rattle.model.specs.Judged.{judged, residualOf, offsetOf, minus, residualAt, offsetAt}
+use Rattle.model.specs.Answers.{locatedOn}
+use Rattle.model.proofs.Judged.{judged-least}
+use Rattle.elements.proofs.Extent.{near-within}
+use Rattle.nearest.proofs.Arrays.{total-small}
+use Rattle.nearest.proofs.Outcomes.{answered}
+use Rattle.nearest.proofs.Placing.{placeable}
+
+pub record Fits (station : ℕ) (offset residual : ℤ) : Type 0 where
+  pub short : station ≤ 30000000
+  pub aside : natAbs offset ≤ 80000000
+  pub along : natAbs residual ≤ 80000000
+
+-- a side of a squared distance
+side : (a b : ℕ) → a * a + b * b ≤ 400000000000000 → a ≤ 20000000
+side a b h = ≤-square (omega (arith, h))
+
+product-small : (t d : ℤ) → natAbs t < 2 ^ 31 → natAbs d ≤ 20000000 → natAbs (t *ℤ d) ≤ 2 ^ 31 * 20000000
+product-small t d h k = omega (arith, natAbs-* t d, mul-le-mul (le-of-lt h) k)
+
+module _ (t d : Point) (hx : natAbs (t .x) < 2 ^ 31) (hy : natAbs (t .y) < 2 ^ 31) (kx : natAbs (d .x) ≤ 20000000) (ky : natAbs (d .y) ≤ 20000000) where
+  residual-small : natAbs (residualOf t d) ≤ 80000000
+  unfolding residualOf
+  residual-small =
+      let a = t .x *ℤ d .x in
+      let b = t .y *ℤ d .y in
+      near-within (a +ℤ b) ONE 80000000 (omega arith) (omega (arith, natAbs-+ a b, product-small (t .x) (d .x) hx kx, product-small (t .y) (d .y) hy ky))
+
+  offset-small : natAbs (offsetOf t d) ≤ 80000000
+  unfolding offsetOf
+  offset-small =
+      let a = t .x *ℤ d .y in
+      let b = t .y *ℤ d .x in
+      near-within (a -ℤ b) ONE 80000000 (omega arith) (omega (arith, natAbs-- a b, product-small (t .x) (d .y) hx ky, product-small (t .y) (d .x) hy kx))
+
+-- the differences from the position
+near-sides : (p q : Point) → distanceSq p q ≤ 400000000000000 → (natAbs (minus p q .x) ≤ 20000000) × (natAbs (minus p q .y) ≤ 20000000)
+unfolding distanceSq squared minus
+near-sides p q h =
+    let a = natAbs (p .x -ℤ q .x) in
+    let b = natAbs (p .y -ℤ q .y) in
+    (side a b h, side b a (omega (arith, h)))
+
+pub answer-fits : (es : List Element) → 0 < length es → length es ≤ 60 → AllAccepted es → (p : Point) (station : ℕ) (offset residual : ℤ) (count : ℕ) →
+    locatedOn es p ≡ LocatedAt station offset residual count → Fits station offset residual
+unfolding D residualAt offsetAt
+answer-fits es some most accepted p station offset residual count e =
+    let a = answered es p station offset residual count .0 e in
+    let s = judged es p in
+    let on = judged-least es p .within in
+    let t = placeable es s some accepted on in
+    let d = near-sides p (positionAt es s) (a .near) in
+    record {
+      short = omega (arith, a .station, on, total-small es accepted);
+      aside = omega (arith, ap natAbs (a .offset), offset-small (tangentAt es s) (minus p (positionAt es s)) (t .tx) (t .ty) (d .0) (d .1));
+      along = omega (arith, ap natAbs (a .residual), residual-small (tangentAt es s) (minus p (positionAt es s)) (t .tx) (t .ty) (d .0) (d .1));
+    }

@@ -1,21 +1,17 @@
 -- The elements of an alignment: the first `count` of its array.
-use Prim.Native.Nat.{ℕ, suc, _+_, _*_, _≤_, _<_}
-use mathlib.Core.List.{List, [], _∷_, map}
-use mathlib.Core.Path.{_≡_, sym, _∙_, ap}
+use Prim.Native.Nat.{ℕ, suc, _≤_, _<_}
+use mathlib.Core.List.{List, _∷_}
+use mathlib.Core.Path.{_≡_, _∙_, ap}
 use native.Mathlib.Omega.{arith}
-use lib.ListN.{length, length-map, getD, drop}
+use lib.ListN.{length, getD, drop}
 use lib.Seq.{length-take-le, drop-cons, getD-take}
 use Rattle.model.specs.declared.Element.{Element}
 use Rattle.model.specs.declared.Alignment.{Alignment}
 use Rattle.model.specs.Accepted.{Accepted, AllAccepted, AlignmentAccepted}
-use Rattle.model.specs.Stations.{noElement, used, total}
+use Rattle.model.specs.Stations.{noElement, used}
 use Rattle.model.proofs.Accepted.{numbers}
 use Rattle.elements.specs.declared.Prepared.{Prepared}
 use Rattle.elements.specs.Prepared.{preparedOf}
-
--- The length of an array that is a struct's field: the relation has it of the list mapped to the elements' tuples.
-pub length-mapped : {X Y : Type 0} (f : X → Y) (l : List X) (n : ℕ) → length (map f l) ≡ n → length l ≡ n
-length-mapped f l n p = sym (length-map l f) ∙ p
 
 pub used-length : (a : Alignment) → length (a .elements) ≡ 60 → AlignmentAccepted a → length (used a) ≡ a .count
 unfolding used
@@ -39,14 +35,6 @@ pub first-accepted : {l : List Element} {e : Element} {es : List Element} → l 
 unfolding AllAccepted
 first-accepted q a = rw q at a
 
-pub first-total : {l : List Element} {e : Element} {es : List Element} → l ≡ e ∷ es → total l ≡ e .length + total es
-unfolding total
-first-total q = ap total q
-
 pub accepted-length : {e : Element} → Accepted e → (1 ≤ e .length) × (e .length ≤ 500000)
 accepted-length a = let n = numbers a in (n .shortest, n .longest)
 
-pub total-small : (es : List Element) → AllAccepted es → total es ≤ 500000 * length es
-unfolding AllAccepted total
-total-small [] a = omega arith
-total-small (e ∷ es) a = omega (arith, accepted-length (a .0), total-small es (a .1))

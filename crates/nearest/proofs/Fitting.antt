@@ -18,7 +18,7 @@ use Rattle.model.specs.Judged.{judged, residualOf, offsetOf, minus, residualAt,
 use Rattle.model.specs.Answers.{locatedOn}
 use Rattle.model.proofs.Judged.{judged-least}
 use Rattle.elements.proofs.Extent.{near-within}
-use Rattle.nearest.proofs.Arrays.{total-small}
+use Rattle.stations.proofs.StationTotal.{total-within}
 use Rattle.nearest.proofs.Outcomes.{answered}
 use Rattle.nearest.proofs.Placing.{placeable}
 
@@ -57,17 +57,17 @@ near-sides p q h =
     let b = natAbs (p .y -ℤ q .y) in
     (side a b h, side b a (omega (arith, h)))
 
-pub answer-fits : (es : List Element) → 0 < length es → length es ≤ 60 → AllAccepted es → (p : Point) (station : ℕ) (offset residual : ℤ) (count : ℕ) →
+pub answer-fits : (es : List Element) → length es ≤ 60 → AllAccepted es → (p : Point) (station : ℕ) (offset residual : ℤ) (count : ℕ) →
     locatedOn es p ≡ LocatedAt station offset residual count → Fits station offset residual
 unfolding D residualAt offsetAt
-answer-fits es some most accepted p station offset residual count e =
+answer-fits es most accepted p station offset residual count e =
     let a = answered es p station offset residual count .0 e in
     let s = judged es p in
     let on = judged-least es p .within in
-    let t = placeable es s some accepted on in
+    let t = placeable es s accepted on in
     let d = near-sides p (positionAt es s) (a .near) in
     record {
-      short = omega (arith, a .station, on, total-small es accepted);
+      short = omega (arith, a .station, on, total-within es accepted);
       aside = omega (arith, ap natAbs (a .offset), offset-small (tangentAt es s) (minus p (positionAt es s)) (t .tx) (t .ty) (d .0) (d .1));
       along = omega (arith, ap natAbs (a .residual), residual-small (tangentAt es s) (minus p (positionAt es s)) (t .tx) (t .ty) (d .0) (d .1));
     }

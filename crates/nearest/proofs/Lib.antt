@@ -12,7 +12,6 @@ pub mod Arrays
 pub mod Seeing
 pub mod Passing
 pub mod Found
-pub mod Seeking
 pub mod Placing
 pub mod Deciding
 pub mod Fitting

@@ -20,7 +20,8 @@ use Rattle.nearest.specs.declared.Pass.{Pass}
 use Rattle.nearest.specs.declared.Pass.the-variants.{First, Second}
 use Rattle.nearest.specs.declared.Seen.{Seen}
 use Rattle.nearest.specs.Search.{seenAt, seenOver, onElement, above, endVisit, firstOn, passVisits, passOn, passOver}
-use Rattle.nearest.proofs.Arrays.{first-accepted, first-total}
+use Rattle.stations.proofs.StationTotal.{total-first}
+use Rattle.nearest.proofs.Arrays.{first-accepted}
 use Rattle.nearest.proofs.Own.{D-own, total-++}
 use Rattle.nearest.proofs.Visits.{Rising, none, next, rising-from, multiples-rise, bestOf-≤}
 use Rattle.nearest.proofs.Seeing.{seenOver-++, seenOver-best, seenOver-visits}
@@ -236,7 +237,7 @@ module _ (pass : Pass) (u : List Element) (q : Point) (w : Seen) (i s : ℕ) (v 
   left-accepted = first-accepted split (l .accepted) .0
 
   pub left-end : s + e .length ≤ total u
-  left-end = omega (arith, l .at, first-total split)
+  left-end = omega (arith, l .at, total-first split)
 
   -- where the element lies, the distance is its own
   left-same : (x : ℕ) → s ≤ x → x < s + ownStations e (drop (suc i) u) → D u q x ≡ onElement e s q x
@@ -260,7 +261,7 @@ module _ (pass : Pass) (u : List Element) (q : Point) (w : Seen) (i s : ℕ) (v 
         bound = omega arith;
         rest = rw n rest;
         accepted = rw n (first-accepted split (l .accepted) .1);
-        at = rw n (omega (arith, l .at, first-total split));
+        at = rw n (omega (arith, l .at, total-first split));
         best = omega (arith, l .best, ap (λ (x : Seen). x .best) p, pass-best pass f (e .length) own s v);
         visits = omega (arith, l .visits, ap (λ (x : Seen). x .visits) p, pass-visits pass f (e .length) own s v, between .1);
       }

@@ -5,7 +5,6 @@ use mathlib.Core.Path.{_≡_, sym, _∙_, ap, ap₂, subst}
 use Prim.Native.Nat.{ℕ, _≤_}
 use native.Mathlib.Omega.{arith}
 use lib.Dec.{eqb}
-use lib.ListN.{length}
 use lib.IntN.{ℤ, pos, negℤ}
 use lib.Signed.{ltZ}
 use borrow.Author.Needs.{needs}
@@ -24,7 +23,6 @@ use Rattle.elements.specs.declared.Placement.{Placement}
 use Rattle.nearest.specs.declared.Seen.{Seen}
 use Rattle.nearest.specs.declared.sides.Sides.{Sides}
 use Rattle.nearest.specs.Search.{Placeable, sidesOf, walkedOf}
-use Rattle.nearest.proofs.Arrays.{length-mapped, used-length}
 use Rattle.nearest.proofs.Placing.{placeable, in-frame}
 use Rattle.nearest.proofs.Deciding.{gives-11, gives-12, gives-13, gives-14, gives-answer}
 use Rattle.nearest.proofs.locate.Statement.{statement}
@@ -116,12 +114,6 @@ after-tested c =
 near : (c : tie.Else2) → let w = c .before .before in D (es w) (q w) (s w) ≤ 400000000000000
 near c = omega (arith, best-is (c .before .before), c .if2 .left)
 
-many : (c : tie.Start) → length (used (c .args .a)) ≡ c .args .a .count
-many c =
-    let a = c .args .a in
-    let n : length (a .elements) ≡ 60 = search length-mapped depth 8 in
-    used-length a n (c .pre)
-
 answer-is : {s t n m : ℕ} {a b x y : ℤ} → s ≡ t → a ≡ b → x ≡ y → n ≡ m → LocatedAt s a x n ≡ LocatedAt t b y m
 answer-is p q r o = cc
 
@@ -157,7 +149,7 @@ to-point-requires : tie.Need-to-point-requires
 to-point-requires c κs =
     let w = c .before .before .before in
     let a = start w in (
-      subst Placeable (sym (c .placed-at .ensures)) (placeable (es w) (c .before .before .before .walk .result .at) (omega (arith, many a, a .pre .some)) (a .pre .each) (at-within w)),
+      subst Placeable (sym (c .placed-at .ensures)) (placeable (es w) (c .before .before .before .walk .result .at) (a .pre .each) (at-within w)),
       in-frame (q w) (inside (w .before)),
     )
 

@@ -7,7 +7,9 @@ use borrow.Author.Needs.{needs}
 use Rattle.model.specs.Stations.{used, D}
 use Rattle.nearest.specs.declared.Pass.the-variants.{First}
 use Rattle.nearest.specs.declared.Seen.{Seen}
-use Rattle.nearest.proofs.Arrays.{length-mapped, used-length, total-small}
+use Rattle.alignment.proofs.JoinElements.{length-mapped}
+use Rattle.stations.proofs.StationTotal.{total-within}
+use Rattle.nearest.proofs.Arrays.{used-length}
 use Rattle.nearest.proofs.Passing.{over-best, over-visits}
 use Rattle.nearest.proofs.Found.{start, found}
 use Rattle.nearest.proofs.walk.Statement.{statement}
@@ -34,7 +36,7 @@ pass-over-requires-2 c κs =
         s .pre .1,
         (
           omega (arith, ap (λ (x : Seen). x .best) e, over-best First d es 0 w),
-          omega (arith, ap (λ (x : Seen). x .visits) e, over-visits First d es 0 w, total-small es (s .pre .0 .each), many s, s .pre .0 .most),
+          omega (arith, ap (λ (x : Seen). x .visits) e, over-visits First d es 0 w, total-within es (s .pre .0 .each), many s, s .pre .0 .most),
         ),
       ),
     )

@@ -11,7 +11,9 @@ use Rattle.model.specs.Accepted.{Accepted}
 use Rattle.model.specs.Stations.{noElement, used}
 use Rattle.model.specs.Walk.{ownStations}
 use Rattle.nearest.specs.Search.{onElement, passOn}
-use Rattle.nearest.proofs.Arrays.{length-mapped, accepted-length, used-length, used-at, prepared-element, total-small}
+use Rattle.alignment.proofs.JoinElements.{length-mapped}
+use Rattle.stations.proofs.StationTotal.{total-within}
+use Rattle.nearest.proofs.Arrays.{accepted-length, used-length, used-at, prepared-element}
 use Rattle.nearest.proofs.Passing.{Left, left-start, left-accepted, left-end, left-step, left-done, own-last, own-more, own-between}
 use Rattle.nearest.proofs.passes.pass_over.Statement.{statement}
 use Rattle.nearest.proofs.passes.pass_over.Tie as tie
@@ -47,7 +49,7 @@ turn c =
       below = below;
       split = split;
       accepted = left-accepted (a .pass) (us c) (a .q) (a .w) (l .i) (l .start) (l .v) (el c) left split;
-      ends = omega (arith, left-end (a .pass) (us c) (a .q) (a .w) (l .i) (l .start) (l .v) (el c) left split, total-small (us c) (s .pre .0 .each), l .inv .1, s .pre .0 .most);
+      ends = omega (arith, left-end (a .pass) (us c) (a .q) (a .w) (l .i) (l .start) (l .v) (el c) left split, total-within (us c) (s .pre .0 .each), l .inv .1, s .pre .0 .most);
     }
 
 loop-holds : tie.Need-loop-holds Inv-loop μ-loop

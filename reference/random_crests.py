@@ -81,6 +81,14 @@ def unit_limit_pairs(tries=20_000):
     return above_in, above_out, below_in, below_out
 
 
+def half_directions():
+    """Directions with one component exactly half of ONE: a product with an odd number is a whole number and a half."""
+    other = isqrt(3 << 58) + 1
+    for pair in (ONE // 2, other), (other, ONE // 2):
+        for signs in (1, 1), (1, -1), (-1, 1), (-1, -1):
+            yield pair[0] * signs[0], pair[1] * signs[1]
+
+
 def direction_fitting(element, wanted):
     """The record direction with which the element's first direction comes to the wanted one."""
     du, dv = crest.own_direction(element, 0)

@@ -11,55 +11,12 @@ from math import isqrt
 import crest
 from crest import ARC, ENTRY, EXIT, FRAME, LINE, ONE, Element, f64_bits, near
 from examples import K, file_of
+from plain_files import altered, file_refusal, line, lines, patched, raw_file, records_of, refusal
 from random_crests import Wish, random_file, random_point, random_unit, unit_limit_pairs
 
 NAN = 0x7FF8000000000000
 INFINITE = 0x7FF0000000000000
 MINUS = 1 << 63
-
-
-def line(x=0, y=0, length=10, c=ONE, s=0):
-    return Element(LINE, length, x, y, c, s, 0)
-
-
-def lines(count):
-    """Lines of 10 mm one after the other along x."""
-    return [line(x=1000 * i) for i in range(count)]
-
-
-def records_of(elements):
-    return b"".join(map(crest.record_of, elements))
-
-
-def raw_file(elements):
-    """The file of these records without any check."""
-    return crest.file_made(records_of(elements))
-
-
-def sealed(file):
-    """The file with A and B made good in every block."""
-    blocks = [bytes(file[at : at + 512]) for at in range(0, len(file), 512)]
-    return b"".join(block[:508] + struct.pack("<HH", *crest.sums(block)) for block in blocks)
-
-
-def patched(file, at, data):
-    return file[:at] + bytes(data) + file[at + len(data) :]
-
-
-def altered(file, at, data):
-    """A change with the checks made good again."""
-    return sealed(patched(file, at, data))
-
-
-def refusal(elements):
-    """(number, place) for a file of these elements, (0, 0) when accepted."""
-    found = crest.check(raw_file(elements))
-    return tuple(found) if isinstance(found, crest.Refusal) else (0, 0)
-
-
-def file_refusal(file):
-    found = crest.check(file)
-    return tuple(found) if isinstance(found, crest.Refusal) else (0, 0)
 
 
 class Rounding(unittest.TestCase):

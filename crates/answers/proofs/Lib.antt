@@ -1,4 +1,5 @@
 -- The laws that belong to no one function.
 pub mod Outside
+pub mod Short
 pub mod Numbers
 pub mod Crest

@@ -1,4 +1,6 @@
 // Little-endian fields of lent bytes.
+pub mod eight;
+
 ghost use mathlib.Core.Path.{_≡_};
 ghost use Prim.Native.Nat.{_+_, _≤_, _<_};
 ghost use lib.ListN.{length};

@@ -1,0 +1,245 @@
+#!/usr/bin/env python3
+"""Writes the vectors that the program reading_vectors compares with: f64 numbers as whole numbers, and run records.
+
+usage: reading_vectors.py FILE
+First how many numbers follow, u32. A number: the bits of an f64, u64; the whole number that it is, i64, where its
+size is below 2^62, else 2^62 with its sign for a larger one, and 2^63 − 1 where it is not finite or not whole.
+
+Then 32 crests, each its length, u32, and its bytes, at most 2,048; then how many histories follow, u32. A history: how
+many calls follow, u32, and the 32 bytes in which the run lies. A call: its sort, u8 (0 plane reading, 1 line reading,
+2 acknowledgement), the crest's number, u8, how many of the 32 bytes are lent as the run, u8, a zero; the returned
+value, u32; the bits of both f64 numbers, u64 each; the 32 bytes afterwards. All little-endian. The same file each time.
+"""
+
+import random
+import struct
+import sys
+from functools import cache
+from math import isqrt
+
+import crest
+from crest import ARC, ENTRY, EXIT, FRAME, OFFSET_LIMIT, ONE, Element, f64_bits
+from plain_files import altered, file_refusal, line, lines, patched, raw_file
+from random_crests import Wish, half_directions, random_file, random_point
+
+LARGE = 2**62
+NOT_WHOLE = 2**63 - 1
+SIGN = 1 << 63
+INFINITE = 0x7FF << 52
+NANS = (INFINITE + 1, INFINITE + 2**51, INFINITE + 2**52 - 1, INFINITE + 2**51 - 1, INFINITE + 2**51 + 12_345)
+ODD = (0.5, -0.5, 1.5, 5e-324, 2.2250738585072014e-308, 1e300, -1e300, 2.0**53, 2.0**62, 2.0**63, -(2.0**63), 2.0**64)
+
+CRESTS = 32
+HISTORIES = 500
+ROOM = 32
+PLANE, LINE_PLACE, ACKNOWLEDGE = 0, 1, 2
+
+# ---------------------------------------------------------------------------
+# Numbers
+
+
+def each_exponent(rng):
+    """Every exponent, both signs; fractions 0, 1, all ones and any."""
+    for high in range(4_096):
+        for fraction in (0, 1, 2**52 - 1, rng.getrandbits(52)):
+            yield high << 52 | fraction
+
+
+def last_places(rng):
+    """Where the exponent leaves places after the point: whole, a half, the last place, and both neighbours of them."""
+    for power in range(64):
+        places = max(0, 52 - power)
+        for fraction in (1 << places, (1 << places) >> 1, (1 << places) - 1, rng.getrandbits(52) >> places << places):
+            for by in (-1, 0, 1):
+                bits = (1023 + power << 52 | fraction % 2**52) + by
+                yield bits
+                yield bits | SIGN
+
+
+def with_neighbours(number):
+    for by in range(-2, 3):
+        bits = f64_bits(number) + by
+        if 0 <= bits < 2**64:
+            yield bits
+            yield bits ^ SIGN
+
+
+def known_numbers(rng):
+    """Zeros, small whole numbers and halves, the rules' limits, powers of two, subnormals, infinities and nans."""
+    for number in range(65):
+        yield from (f64_bits(number / 2.0), f64_bits(number / 2.0) ^ SIGN)
+    limits = (1.0, 100.0, 65_535.0, float(FRAME), FRAME + 1.0, float(OFFSET_LIMIT), OFFSET_LIMIT + 1.0, 500_000.0, 3e7)
+    for number in limits + tuple(2.0**power for power in (20, 31, 32, 51, 52, 53, 54, 61, 62, 63, 64, 1023)):
+        yield from with_neighbours(number)
+    for power in range(53):
+        yield from (1 << power >> 1, (1 << power) - 1, SIGN | 1 << power >> 1)
+    for bits in (INFINITE, INFINITE - 1, *NANS):
+        yield from (bits, bits | SIGN)
+
+
+def any_numbers(rng):
+    """Any bits; whole numbers of any size; halves."""
+    for _ in range(1_500):
+        yield rng.getrandbits(64)
+    for _ in range(2_500):
+        yield f64_bits(float(rng.choice((-1, 1)) * rng.getrandbits(rng.randint(1, 70))))
+    for _ in range(400):
+        yield f64_bits((2 * rng.getrandbits(rng.randint(1, 51)) + 1) / rng.choice((2.0, -2.0, 4.0)))
+
+
+def whole_code(bits):
+    number = crest.whole_of_f64(bits)
+    if number is None:
+        return NOT_WHOLE
+    return number if abs(number) < LARGE else LARGE if number > 0 else -LARGE
+
+
+def numbers(rng):
+    bits = [b for chapter in (each_exponent, last_places, known_numbers, any_numbers) for b in chapter(rng)]
+    assert len(bits) >= 20_000
+    yield struct.pack("<I", len(bits))
+    for pattern in bits:
+        yield struct.pack("<Qq", pattern, whole_code(pattern))
+
+
+# ---------------------------------------------------------------------------
+# Crests
+
+
+def crests(rng):
+    """Accepted crests, some at the frame's edge, and one with each refusal; the later blocks' places among them."""
+    row = lines(60)
+    four = raw_file(row)
+    yield raw_file([line(length=10_000)])
+    yield raw_file([line(length=3)])
+    for kind, radius in ((ARC, -500), (ENTRY, 300), (EXIT, -250)):
+        yield raw_file([Element(kind, 250, 4_000, -70_000, ONE, 0, radius)])
+    yield raw_file([line(x=FRAME - 500, y=FRAME - 300)])
+    yield raw_file([line(x=-FRAME, y=-FRAME, c=0, s=-ONE)])
+    for c, s in list(half_directions())[::3]:
+        yield raw_file([line(x=77, y=-5, length=400, c=c, s=s)])
+    for count in (1, 2, 5, 14, 15, 16, 30, 31, 33, 46, 60):
+        yield random_file(rng, Wish(count, longest=90))[0]
+    yield four[:-1]
+    yield b""
+    yield bytes(512)
+    yield patched(four, 1_024 + 77, [200])
+    yield altered(four, 512 + 484, [2])
+    for record, change in (
+        (37, dict(kind=0)), (20, dict(kind=7)), (59, dict(length=0)), (3, dict(c=5)), (45, dict(y=101)),
+        (30, dict(c=isqrt(2**60 - 1_000_001**2), s=1_000_001)),
+    ):  # fmt: skip
+        yield raw_file(row[:record] + [row[record]._replace(**change)] + row[record + 1 :])
+
+
+# ---------------------------------------------------------------------------
+# Histories
+
+
+def odd_number(rng):
+    choice = rng.randrange(8)
+    if choice == 0:
+        return rng.choice(NANS) | rng.choice((0, SIGN))
+    if choice == 1:
+        return INFINITE | rng.choice((0, SIGN))
+    if choice == 2:
+        return SIGN  # minus zero
+    if choice == 3:
+        return rng.getrandbits(64)
+    return f64_bits(rng.choice(ODD))
+
+
+def plane_numbers(rng, alignment):
+    """x and y: a point of the crest's, the frame's edge or beyond it; now and then a number that is not whole."""
+    x, y = random_point(rng, alignment) if alignment else (rng.randint(-FRAME, FRAME), rng.randint(-1_000, 1_000))
+    if rng.randrange(12) == 0:
+        x, y = rng.choice(((FRAME + 1, y), (x, -FRAME - 1), (-FRAME, y), (x, FRAME), (2**40, y)))
+    return odd_instead(rng, f64_bits(float(x)), f64_bits(float(y)))
+
+
+def line_numbers(rng, alignment):
+    """Station and offset: on the crest, at the ends and limits and one beyond; now and then not whole."""
+    total = alignment.total if alignment else 1_000
+    station = rng.choice((0, total, total + 1, -1, rng.randint(0, total), rng.randint(0, total), rng.randint(0, total)))
+    reach = rng.choice((0, 500, 100_000, OFFSET_LIMIT))
+    edges = OFFSET_LIMIT, -OFFSET_LIMIT, OFFSET_LIMIT + 1, -OFFSET_LIMIT - 1
+    offset = rng.choice((rng.randint(-reach, reach),) * 5 + edges)
+    return odd_instead(rng, f64_bits(float(station)), f64_bits(float(offset)))
+
+
+def odd_instead(rng, one, two):
+    choice = rng.randrange(10)
+    return (odd_number(rng) if choice == 0 else one), (odd_number(rng) if choice == 1 else two)
+
+
+def beginning(rng):
+    """The bytes in which the run lies: fresh, nearly full, full, past that, or any; bytes 24 to 31 are any."""
+    choice = rng.randrange(20)
+    spare = rng.choice((0, 0, rng.randrange(65_536)))
+    if choice < 11:
+        run = bytes(10) + struct.pack("<H", spare) + bytes(12)
+    elif choice < 15:
+        readings = 65_535 - rng.choice((0, 1, 2, 3, 7, 20))
+        answered = rng.choice((0, readings, rng.randint(0, readings)))
+        first = rng.choice((0, rng.randint(1, 18)))
+        reading = rng.choice((0, rng.randint(1, readings)))
+        head = struct.pack("<HHHHHH", answered, readings - answered, rng.randint(0, 18), first, reading, spare)
+        run = head + rng.randbytes(12)
+    else:
+        run = rng.randbytes(24)
+        if choice > 17:  # counts that leave room
+            run = struct.pack("<HH", rng.randrange(30_000), rng.randrange(30_000)) + run[4:]
+    return run + rng.randbytes(ROOM - len(run))
+
+
+def call(rng, files, few, state):
+    """A call with one of a few crests on the run in these bytes: the call's own bytes, and the run's afterwards."""
+    sort = rng.choices((PLANE, LINE_PLACE, ACKNOWLEDGE), (45, 38, 17))[0]
+    number = rng.choice(few)
+    lent = 24 if rng.randrange(16) else rng.choice((0, 1, 22, 23, 25, 26, 31, 32))
+    file = files[number]
+    found = crest.check(file)
+    alignment = None if isinstance(found, crest.Refusal) else found
+    if sort == PLANE:
+        one, two = plane_numbers(rng, alignment)
+        value, run = crest.crest_plane_reading(file, one, two, state[:lent])
+    elif sort == LINE_PLACE:
+        one, two = line_numbers(rng, alignment)
+        value, run = crest.crest_line_reading(file, one, two, state[:lent])
+    else:
+        one = two = number = 0
+        value, run = crest.crest_acknowledge(state[:lent])
+    assert len(run) == lent
+    state = run + state[lent:]
+    return struct.pack("<BBBxIQQ", sort, number, lent, value, one, two) + state, state
+
+
+def histories(rng):
+    crest.check = cache(crest.check)  # the same few crests throughout
+    files = list(crests(rng))
+    found = [file_refusal(file)[0] for file in files]
+    assert set(found) == set(range(10)), found
+    assert len(files) == CRESTS
+    for file in files:
+        yield struct.pack("<I", len(file)) + file
+    yield struct.pack("<I", HISTORIES)
+    for number in range(HISTORIES):
+        state = beginning(rng)
+        calls = 1 + number % 40
+        yield struct.pack("<I", calls) + state
+        few = rng.sample(range(len(files)), rng.randint(1, 6))
+        for _ in range(calls):
+            done, state = call(rng, files, few, state)
+            yield done
+
+
+def main():
+    with open(sys.argv[1], "wb") as file:
+        for part in numbers(random.Random(7)):
+            file.write(part)
+        for part in histories(random.Random(8)):
+            file.write(part)
+
+
+if __name__ == "__main__":
+    main()

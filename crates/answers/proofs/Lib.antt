@@ -3,3 +3,4 @@ pub mod Outside
 pub mod Short
 pub mod Numbers
 pub mod Crest
+pub mod Storable

@@ -37,4 +37,3 @@ first-accepted q a = rw q at a
 
 pub accepted-length : {e : Element} → Accepted e → (1 ≤ e .length) × (e .length ≤ 500000)
 accepted-length a = let n = numbers a in (n .shortest, n .longest)
-

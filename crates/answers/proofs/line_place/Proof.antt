@@ -1,5 +1,4 @@
 -- `answers::line_place` meets its contract: 10 where a number is not whole, and else the question with its numbers as they are held.
-use mathlib.Core.Bool.{true, false}
 use mathlib.Core.Path.{_≡_, sym, _∙_, ap, ap₂}
 use lib.IntN.{ℤ}
 use mir.Syntax.{w64}

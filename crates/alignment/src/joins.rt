@@ -64,7 +64,7 @@ fn check_join(last: Placement, first: Placement, r: u32) -> Outcome
     Outcome::Done
 }
 
-// 8 and 9: every join of an accepted alignment. An element is prepared once, and its end is kept for the join after it.
+// 8 and 9: every join of elements that are accepted one by one. An element is prepared once, and its end is kept for the join after it.
 pub fn check_joins(a: Alignment) -> Outcome
     requires { ⌜ AlignmentAccepted a ⌝ }
     ensures { λ o. ⌜ o ≡ verdict (joinsRules (used a)) ⌝ }

@@ -1,20 +1,24 @@
--- Document 01's printed example: "For K, readings 1 and 4 above".
-use Prim.Native.Nat.{ℕ, _+_}
-use mathlib.Core.Bool.{false}
+-- What the program prints: document 01's example ("For K, readings 1 and 4 above"), and the sentences that no example shows.
+use Prim.Native.Nat.{ℕ, zero, suc, _+_, _*_, _/_, _≤_, _<_}
+use mathlib.Core.Bool.{true, false}
 use mathlib.Core.List.{List, [], _∷_, _++_}
-use mathlib.Core.Path.{_≡_, refl, _∙_, ap}
+use mathlib.Core.Path.{_≡_, refl, _∙_, ap, ap₂}
+use native.Mathlib.Omega.{arith}
+use lib.ListN.{length, drop, length-append, length-drop, List·getD-append}
+use lib.Seq.{drop-append-le}
 use lib.IntN.{pos}
 use lib.Ieee.{Float, binary64, ofBits}
 use Rattle.model.specs.declared.Reading.{Reading}
 use Rattle.model.specs.declared.Run.{Run}
 use Rattle.model.specs.declared.Reading.the-variants.{PlanePoint}
 use Rattle.model.specs.declared.Outcome.the-variants.{Done}
-use Rattle.model.specs.Refusals.{verdict, orRefused}
+use Rattle.model.specs.Records.{byteAt, u32At}
+use Rattle.model.specs.Refusals.{refusal, verdict, orRefused}
 use Rattle.model.specs.Acceptance.{checked, crestRules, crestElements}
 use Rattle.model.specs.Answers.{locatedOn}
 use Rattle.model.specs.Readings.{numberRules, answerTo, fromLocated, valueOf, wholeOf}
 use Rattle.model.specs.Run.{Shown, fresh, isFull, fullRules, shownOf, counted, noted, notedIf}
-use Rattle.model.specs.Program.{ascii, heading, readingLine, lastLine, readingsOf, printFrom, printed}
+use Rattle.model.specs.Program.{ascii, decimal, line, firstWords, heading, readingLine, lastLine, readingAt, readingsFrom, readingsOf, printFrom, printed}
 use Rattle.model.specs.Examples.{K, point}
 use Rattle.model.proofs.Verdict.{verdict-after}
 use Rattle.model.proofs.Answers.{located-after}
@@ -104,3 +108,42 @@ both-lines =
 pub printed-example : printed K readingsK ≡ ascii "reading station offset residual\n1 5 300 12\n2 refused 13\nanswered 1 refused 1 first 2 13\n"
 unfolding printed heading readingLine lastLine counted
 printed-example = ap (λ rs. heading ++ printFrom K 1 fresh rs) readings-read ∙ ap (λ t. heading ++ t) both-lines
+
+-- ---- what no example shows
+
+-- "from a full run on, each reading prints its number in the input and refused 16"
+pub full-line : (file : List ℕ) (i : ℕ) (run : Run) (r : Reading) (rs : List Reading) → isFull run ≡ true → printFrom file i run (r ∷ rs) ≡ line (decimal i ∷ ascii "refused" ∷ decimal 16 ∷ []) ++ printFrom file (i + 1) run rs
+unfolding printFrom noted notedIf verdict orRefused fullRules refusal shownOf readingLine
+full-line file i run r rs h = rw h
+
+-- "With no refusal the last line ends "first none"."
+pub first-none : (run : Run) → run .first ≡ 0 → lastLine run ≡ line (ascii "answered" ∷ decimal (run .answered) ∷ ascii "refused" ∷ decimal (run .refused) ∷ ascii "first" ∷ ascii "none" ∷ [])
+unfolding lastLine firstWords
+first-none run h = rw h
+
+-- "a shorter tail is ignored"
+byte-before : (l t : List ℕ) (i : ℕ) → i < length l → byteAt (l ++ t) i ≡ byteAt l i
+byte-before l t i h = List·getD-append l t 0 i h
+
+u32-before : (l t : List ℕ) (i : ℕ) → i + 4 ≤ length l → u32At (l ++ t) i ≡ u32At l i
+u32-before l t i h =
+    rw (byte-before l t i (omega arith), byte-before l t (i + 1) (omega arith), byte-before l t (i + 2) (omega arith), byte-before l t (i + 3) (omega arith))
+
+reading-before : (l t : List ℕ) → 16 ≤ length l → readingAt (l ++ t) ≡ readingAt l
+unfolding readingAt
+reading-before l t h =
+    rw (u32-before l t 0 (omega arith), u32-before l t 4 (omega arith), u32-before l t 8 (omega arith), u32-before l t 12 (omega arith))
+
+readings-before : (n : ℕ) (l t : List ℕ) → length l ≡ 16 * n → readingsFrom n (l ++ t) ≡ readingsFrom n l
+unfolding readingsFrom
+readings-before zero l t h = refl
+readings-before (suc n) l t h =
+    ap₂ _∷_ (reading-before l t (omega arith))
+    (ap (readingsFrom n) (drop-append-le 16 l t (omega arith)) ∙ readings-before n (drop 16 l) t (omega (arith, length-drop 16 l)))
+
+pub tail-ignored : (n : ℕ) (l t : List ℕ) → length l ≡ 16 * n → length t < 16 → readingsOf (l ++ t) ≡ readingsOf l
+unfolding readingsOf
+tail-ignored n l t h k =
+    let m : length (l ++ t) / 16 ≡ n = omega (arith, length-append l t) in
+    let o : length l / 16 ≡ n = omega arith in
+    rw (m, o) (readings-before n l t h)

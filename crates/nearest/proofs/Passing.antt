@@ -4,6 +4,7 @@ use mathlib.Core.List.{List, [], _∷_, _++_, append-assoc, append-nil}
 use mathlib.Core.Logic.{_≢_}
 use mathlib.Core.Path.{_≡_, refl, sym, _∙_, ap}
 use Prim.Native.Nat.{ℕ, zero, suc, _+_, _-_, _*_, _/_, _%_, _≤_, _<_, min}
+use native.Mathlib.Decide.{decLt}
 use native.Mathlib.Omega.{arith}
 use native.Mathlib.Nat.{le-refl}
 use native.Mathlib.Numerals.{add-one}
@@ -217,13 +218,21 @@ pub record Left (pass : Pass) (u : List Element) (q : Point) (w : Seen) (i s : �
 pub left-start : (pass : Pass) (u : List Element) (q : Point) (w : Seen) → AllAccepted u → Left pass u q w 0 0 w
 left-start pass u q w h = record { bound = omega arith; rest = refl; accepted = h; at = omega arith; best = omega arith; visits = omega arith }
 
-pub own-last : (u : List Element) (i : ℕ) (e : Element) → length u ≤ suc i → ownStations e (drop (suc i) u) ≡ e .length + 1
+own-last : (u : List Element) (i : ℕ) (e : Element) → length u ≤ suc i → ownStations e (drop (suc i) u) ≡ e .length + 1
 unfolding ownStations
 own-last u i e h = rw (drop-of-length-le u h)
 
-pub own-more : (u : List Element) (i : ℕ) (e f : Element) → suc i < length u → ownStations e (drop (suc i) u) ≡ e .length
+own-more : (u : List Element) (i : ℕ) (e f : Element) → suc i < length u → ownStations e (drop (suc i) u) ≡ e .length
 unfolding ownStations
 own-more u i e f h = rw (drop-cons u (suc i) f h)
+
+-- the own stations of the i-th of `count` elements
+pub own-by : (u : List Element) (i : ℕ) (e f : Element) {count : ℕ} → length u ≡ count → i < count → cond (eqb (i + 1) count) (e .length + 1) (e .length) ≡ ownStations e (drop (suc i) u)
+own-by u i e f {count} n h = go (decLt (i + 1) count)
+  where
+    go : Dec (i + 1 < count) → cond (eqb (i + 1) count) (e .length + 1) (e .length) ≡ ownStations e (drop (suc i) u)
+    go (yes q) = rw (ne-eqb (i + 1) count (λ o. omega arith)) (sym (own-more u i e f (omega arith)))
+    go (no q) = rw (eq-eqb (i + 1) count (omega arith)) (sym (own-last u i e (omega arith)))
 
 first-over : (pass : Pass) (d : ℕ → ℕ) {l : List Element} {e : Element} {es : List Element} (s : ℕ) (v : Seen) → l ≡ e ∷ es → passOver pass d l s v ≡ passOver pass d es (s + e .length) (passOn pass d (e .length) (ownStations e es) s v)
 unfolding passOver

@@ -7,7 +7,9 @@ use elements::Prepared;
 use model::Alignment;
 use model::Point;
 ghost use mathlib.Core.Path.{_≡_};
-ghost use Prim.Native.Nat.{_^_, _≤_};
+ghost use mathlib.Core.Bool.{cond};
+ghost use Prim.Native.Nat.{_+_, _^_, _<_, _≤_};
+ghost use lib.Dec.{eqb};
 ghost use Rattle.model.specs.Accepted.{AlignmentAccepted};
 ghost use Rattle.model.specs.Stations.{used, D};
 ghost use Rattle.model.specs.Walk.{elementVisits};
@@ -79,6 +81,14 @@ fn pass_on(pass: Pass, p: Prepared, own: u64, start: u64, q: Point, w: Seen) -> 
     }
 }
 
+// How many stations are an element's own, the i-th of `count` and n mm long: that of a join is the next element's, and T the last one's.
+fn own_stations(n: u64, i: usize, count: usize) -> u64
+    requires { ⌜ (n < 2 ^ 32) × (i < count) ⌝ }
+    ensures { λ r. ⌜ r ≡ cond (eqb (i + 1) count) (n + 1) n ⌝ }
+{
+    if i + 1 == count { n + 1 } else { n }
+}
+
 // A pass over all elements, each prepared once.
 pub fn pass_over(pass: Pass, a: Alignment, q: Point, w: Seen) -> Seen
     requires { ⌜ AlignmentAccepted a ⌝ }
@@ -93,7 +103,7 @@ pub fn pass_over(pass: Pass, a: Alignment, q: Point, w: Seen) -> Seen
     while i < count {
         let e = a.elements[i];
         let n = e.length;
-        let own = if i + 1 == count { n + 1 } else { n };
+        let own = own_stations(n, i, count);
         v = pass_on(pass, elements::prepare(e), own, start, q, v);
         start += n;
         i += 1;

@@ -1,6 +1,5 @@
 -- `nearest::passes::pass_over` meets its contract. The invariant: what is left of the pass, from what is seen, is the whole.
 use mathlib.Core.List.{List, _∷_}
-use mathlib.Core.Logic.{⊎-elim}
 use mathlib.Core.Path.{_≡_, sym, _∙_, ap, ap₂}
 use Prim.Native.Nat.{ℕ, suc, _+_, _-_, _≤_, _<_}
 use native.Mathlib.Omega.{arith}
@@ -14,7 +13,7 @@ use Rattle.nearest.specs.Search.{onElement, passOn}
 use Rattle.alignment.proofs.JoinElements.{length-mapped}
 use Rattle.stations.proofs.StationTotal.{total-within}
 use Rattle.nearest.proofs.Arrays.{accepted-length, used-length, used-at, prepared-element}
-use Rattle.nearest.proofs.Passing.{Left, left-start, left-accepted, left-end, left-step, left-done, own-last, own-more, own-between}
+use Rattle.nearest.proofs.Passing.{Left, left-start, left-accepted, left-end, left-step, left-done, own-by, own-between}
 use Rattle.nearest.proofs.passes.pass_over.Statement.{statement}
 use Rattle.nearest.proofs.passes.pass_over.Tie as tie
 
@@ -64,24 +63,18 @@ mul-e c = search needs
 element-copy-out-e : tie.Need-element-copy-out-e Inv-loop μ-loop
 element-copy-out-e c = search needs
 
-add-if1 : tie.Need-add-if1 Inv-loop μ-loop
-add-if1 c = search needs
-
-add-own : tie.Need-add-own Inv-loop μ-loop
-add-own c = omega (arith, turn (c .before .before) .ends)
+own-stations-requires : tie.Need-own-stations-requires Inv-loop μ-loop
+own-stations-requires c κs = (omega (arith, turn (c .before) .ends), c .before .loop-test .taken)
 
 prepare-requires : tie.Need-prepare-requires Inv-loop μ-loop
 prepare-requires c κs = turn (c .before .before) .accepted
 
--- both arms give the element's own stations
-own-is : (c : tie.Joined1 Inv-loop μ-loop) → c .if1 .own ≡ ownStations (el (c .before .before)) (drop (suc (c .before .before .before .loop .i)) (us (c .before .before)))
+-- the last one's own stations, or another's
+own-is : (c : tie.After-own-stations Inv-loop μ-loop) → c .own-stations .result ≡ ownStations (el (c .before .before)) (drop (suc (c .before .before .before .loop .i)) (us (c .before .before)))
 own-is c =
     let o = c .before .before in
     let l = o .before .loop in
-    ⊎-elim
-    (λ y. y .1 ∙ sym (own-last (us o) (l .i) (el o) (omega (arith, y .0 .taken, l .inv .1))))
-    (λ y. y .1 ∙ sym (own-more (us o) (l .i) (el o) noElement (omega (arith, y .0 .left, l .inv .1, o .loop-test .taken))))
-    (c .if1 .came)
+    c .own-stations .ensures ∙ own-by (us o) (l .i) (el o) noElement (l .inv .1) (o .loop-test .taken)
 
 element-is : (c : tie.After-prepare Inv-loop μ-loop) → c .prepare .result .element ≡ el (c .before .before .before)
 element-is c = prepared-element (el (c .before .before .before)) (c .prepare .ensures .0)
@@ -143,8 +136,7 @@ pass-over-spec =
     loop-holds
     mul-e
     element-copy-out-e
-    add-if1
-    add-own
+    own-stations-requires
     prepare-requires
     pass-on-requires
     add-start

@@ -1,5 +1,5 @@
 // The crest file: blocks, records, the reader and the writer.
-pub mod block;
+mod block;
 pub mod check;
 pub mod record;
 pub mod write;

@@ -2,7 +2,7 @@
 -- only where the distance exceeds the best by 150 j + 31 at least, so by the triangle inequality 1 grain is left.
 use mathlib.Core.Path.{_≡_, ap₂, subst}
 use mathlib.Core.List.{[], _∷_}
-use Prim.Native.Nat.{ℕ, _+_, _*_, _≤_, _<_}
+use Prim.Native.Nat.{ℕ, _+_, _-_, _*_, _/_, _≤_, _<_}
 use native.Mathlib.Omega.{arith}
 use native.Mathlib.Nat.{lt-of-lt-of-le}
 use lib.IntN.{ℤ, _-ℤ_}
@@ -38,9 +38,15 @@ farther-than p q r m b h k =
 pub positions-close : (e : Element) → Accepted e → (s j : ℕ) → s + j ≤ e .length → distanceSq (positionOn e s) (positionOn e (s + j)) ≤ (150 * j + 30) * (150 * j + 30)
 positions-close = spacing
 
--- "s + 1 + (a − b − 31) div 150": what is left out lies farther than the best, b
+-- What is left out lies farther than the best, b, where the distance exceeds it by 31 grains and 150 a station.
+pub surplus-farther : (e : Element) → Accepted e → (p : Point) (s j b : ℕ) → s + j ≤ e .length → 0 < j →
+    j ≤ (root (distanceSq p (positionOn e s)) - root b - 31) / 150 →
+    b < distanceSq p (positionOn e (s + j))
+surplus-farther e a p s j b h z k =
+    farther-than p (positionOn e s) (positionOn e (s + j)) (150 * j + 30) b (positions-close e a s j h) (omega arith)
+
+-- "s + 1 + (a − b − 31) div 150"
 pub skipped-farther : (e : Element) → Accepted e → (p : Point) (s j b : ℕ) → s + j ≤ e .length → 0 < j → j ≤ skipped (distanceSq p (positionOn e s)) b →
     b < distanceSq p (positionOn e (s + j))
 unfolding skipped
-skipped-farther e a p s j b h z k =
-    farther-than p (positionOn e s) (positionOn e (s + j)) (150 * j + 30) b (positions-close e a s j h) (omega arith)
+skipped-farther = surplus-farther

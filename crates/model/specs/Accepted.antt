@@ -18,7 +18,7 @@ unfoldable pub AllAccepted : List Element → Type 0
 AllAccepted [] = Unit {0}
 AllAccepted (e ∷ es) = Accepted e × AllAccepted es
 
--- An alignment by value of 1 to 60 elements, each of which is refused with none of 4 to 7; its joins are not asked about.
+-- An alignment by value of 1 to 60 elements, each accepted as above; its joins are not asked about.
 pub record AlignmentAccepted (a : Alignment) : Type 0 where
   pub some : 1 ≤ a .count
   pub most : a .count ≤ mostRecords

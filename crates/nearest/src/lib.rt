@@ -1,12 +1,14 @@
 // Station and offset of a point by the published walk.
+use alignment::accept::accept;
 use model::Alignment;
 use model::Located;
+use model::Outcome;
 use model::Point;
 use model::Refusal;
 ghost use mathlib.Core.Path.{_≡_};
 ghost use Rattle.model.specs.Accepted.{AlignmentAccepted};
 ghost use Rattle.model.specs.Stations.{used};
-ghost use Rattle.model.specs.Answers.{locatedOn};
+ghost use Rattle.model.specs.Answers.{located as locatedIn, locatedOn};
 ghost use Rattle.nearest.specs.Search.{InFrame, walkedOf};
 
 mod passes;
@@ -76,5 +78,18 @@ pub fn locate(a: Alignment, q: Point) -> Located
         offset: d.offset,
         residual: d.residual,
         visits: w.visits,
+    }
+}
+
+// Station and offset of a point on the bytes of a crest: the crest's own refusals first.
+pub fn located(file: &[u8], q: Point) -> Located
+    ensures { λ r. ⌜ r ≡ locatedIn (now (file .entry)) q ⌝ }
+{
+    let crest = accept(file);
+    let outcome = crest.outcome;
+    let a = crest.alignment;
+    match outcome {
+        Outcome::Refused(x) => Located::Refused(x),
+        Outcome::Done => locate(a, q),
     }
 }

@@ -1,8 +1,8 @@
 // Histories of calls on a run record. The crests stand in slots of 2,048 bytes, and a call names one by its number; the run lies
 // in 32 bytes, of which a call lends the first few.
-use crate::trial::crest_acknowledge;
-use crate::trial::crest_line_reading;
-use crate::trial::crest_plane_reading;
+use crest::crest_acknowledge;
+use crest::crest_line_reading;
+use crest::crest_plane_reading;
 use vectors::Tally;
 use vectors::number;
 use vectors::with;

@@ -2,7 +2,6 @@
 // many of each there are and how many differ. The file's layout is in reference/reading_vectors.py.
 mod calls;
 mod numbers;
-mod trial;
 
 fn main() {
     vectors::say(b"numbers ", numbers::all());

@@ -3,21 +3,10 @@
 use fields::eight::signed;
 use fields::eight::u64_at;
 use model::Located;
-use model::Outcome;
 use model::Point;
 use vectors::Tally;
 use vectors::number;
 use vectors::with;
-
-// What a point comes to on the crest of a file.
-fn locate(crest: &[u8], p: Point) -> Located {
-    let r = alignment::accept::accept(crest);
-    let o = r.outcome;
-    match o {
-        Outcome::Done => nearest::locate(r.alignment, p),
-        Outcome::Refused(why) => Located::Refused(why),
-    }
-}
 
 // Whether what a point comes to is that of its row.
 fn agrees(row: &[u8; 44], found: Located) -> bool {
@@ -50,7 +39,7 @@ fn point(t: Tally, crest: &[u8]) -> Tally {
         x: signed(u64_at(&row, 0)),
         y: signed(u64_at(&row, 8)),
     };
-    with(t, agrees(&row, locate(crest, p)))
+    with(t, agrees(&row, nearest::located(crest, p)))
 }
 
 fn points(mut t: Tally, crest: &[u8]) -> Tally {

@@ -1,0 +1,5 @@
+-- The laws that belong to no one function.
+pub mod Codes
+pub mod Moves
+pub mod Widths
+pub mod Readings

@@ -1,0 +1,24 @@
+-- `crest::crest_check` meets its contract: a file's refusals are small.
+use mathlib.Core.Path.{sym, ap, _∙_, subst}
+use denote.Ref.{now}
+use borrow.Author.Needs.{needs}
+use Rattle.model.specs.declared.Outcome.{Outcome}
+use Rattle.model.specs.Answers.{code, paperOfOutcome}
+use Rattle.model.specs.Run.{checkCall}
+use Rattle.crest.specs.Codes.{Small}
+use Rattle.crest.proofs.Codes.{check-small}
+use Rattle.crest.proofs.crest_check.Statement.{statement}
+use Rattle.crest.proofs.crest_check.Tie as tie
+
+check-requires : tie.Need-check-requires
+check-requires c κs = search needs
+
+outcome-code-requires : tie.Need-outcome-code-requires
+outcome-code-requires c κs = subst (λ (o : Outcome). Small (paperOfOutcome o)) (sym (c .check .ensures)) (check-small (now (c .before .before .args .crest)))
+
+returns : tie.Need-returns
+unfolding checkCall
+returns c = c .outcome-code .ensures ∙ ap (λ (o : Outcome). code (paperOfOutcome o)) (c .before .check .ensures)
+
+pub crest-check-spec : {M : Type 1} → statement M
+crest-check-spec = tie.close (tie.spec check-requires outcome-code-requires returns)

@@ -22,12 +22,12 @@ numbers-small : (a b : Float) → SmallOrder (numberRules a b)
 unfolding numberRules
 numbers-small a b = rule-small _ [] (omega arith) (λ d. none-small)
 
-point-small : (es : List Element) (p : Point) (s : ℕ) → SmallOrder (pointRules es p s)
+pub point-small : (es : List Element) (p : Point) (s : ℕ) → SmallOrder (pointRules es p s)
 unfolding pointRules
 point-small es p s =
     rule-small _ _ (omega arith) (λ a. rule-small _ _ (omega arith) (λ b. rule-small _ _ (omega arith) (λ c. rule-small _ [] (omega arith) (λ d. none-small))))
 
-line-small : (es : List Element) (s w : ℤ) → SmallOrder (lineRules es s w)
+pub line-small : (es : List Element) (s w : ℤ) → SmallOrder (lineRules es s w)
 unfolding lineRules
 line-small es s w = rule-small _ _ (omega arith) (λ a. rule-small _ [] (omega arith) (λ b. none-small))
 

@@ -26,7 +26,7 @@ ghost use Rattle.readings.specs.Stored.{Storable};
 ghost use Rattle.crest.specs.Codes.{Small, Movable};
 
 // A refusal's number plus 256 times its place.
-fn code_of(why: Refusal) -> u32
+pub fn code_of(why: Refusal) -> u32
     requires { ⌜ Small (refusedWith why []) ⌝ }
     ensures { λ r. ⌜ r ≡ code (refusedWith why []) ⌝ }
 {
@@ -62,7 +62,7 @@ pub extern "C" fn crest_write(records: &[u8], room: &mut [u8]) -> u32
     outcome_code(written)
 }
 
-fn point(x: i32, y: i32) -> Point
+pub fn point(x: i32, y: i32) -> Point
     ensures { λ r. ⌜ r ≡ record { x = x; y = y } ⌝ }
 {
     Point {

@@ -3,16 +3,13 @@ use Prim.Native.Nat.{ℕ}
 use mathlib.Core.List.{List}
 use mathlib.Core.Path.{_≡_, sym, ap, ap₂, _∙_, subst}
 use lib.IntN.{ℤ}
-use mir.Syntax.{w32}
-use mir.Val.{SFits, toZ, ofZ}
-use mir.ValLaws.{toZ-ofZ}
 use denote.Ref.{now}
 use Rattle.model.specs.declared.Point.{Point}
 use Rattle.model.specs.declared.Move.{Move}
 use Rattle.model.specs.Answers.{code, paperOfMove, stakeOut}
 use Rattle.model.specs.Run.{moveBytes}
 use Rattle.crest.specs.Codes.{Movable}
-use Rattle.crest.proofs.Widths.{wide-fits, wide}
+use Rattle.crest.proofs.Widths.{wide-fits, wide, as-came}
 use Rattle.crest.proofs.Moves.{stake-18, stake-answered, stake-movable}
 use borrow.Author.Needs.{needs}
 use Rattle.crest.proofs.crest_stake_out.Statement.{statement}
@@ -40,10 +37,6 @@ stake-out-requires c κs = search needs
 
 same-stake : {own own′ target target′ : Point} {x x′ y y′ : ℤ} → own ≡ own′ → target ≡ target′ → x ≡ x′ → y ≡ y′ → stakeOut own target x y ≡ stakeOut own′ target′ x′ y′
 same-stake o t e f = cc
-
--- a point of two arguments, as the call gets them
-as-came : {p : Point} {x y : ℤ} → SFits w32 x → SFits w32 y → p ≡ record { x = toZ w32 (ofZ w32 x); y = toZ w32 (ofZ w32 y) } → p ≡ record { x = x; y = y }
-as-came {p} {x} {y} f g e = e ∙ rw (toZ-ofZ w32 x f, toZ-ofZ w32 y g)
 
 module _ (c : tie.After-stake-out) where
   abbrev start : tie.Start

@@ -1,20 +1,12 @@
 -- `crest::put_move` meets its contract: two fields, one after the other, each of a number of 32 bits.
-use Prim.Native.Nat.{ℕ}
-use mathlib.Core.List.{List}
-use mathlib.Core.Path.{_≡_, refl, ap, _∙_}
-use lib.IntN.{ℤ}
-use mir.Syntax.{w32, w64}
-use mir.Val.{SFits, toZ, ofZ}
+use mathlib.Core.Path.{refl}
 use denote.Ref.{now}
 use borrow.Author.Needs.{needs}
-use Rattle.model.specs.Records.{put, putAll}
-use Rattle.model.specs.Run.{i32Bytes, moveBytes}
-use Rattle.readings.proofs.Narrow.{narrow}
+use Rattle.model.specs.Records.{putAll}
+use Rattle.model.specs.Run.{moveBytes}
+use Rattle.crest.proofs.Widths.{then-put}
 use Rattle.crest.proofs.put_move.Statement.{statement}
 use Rattle.crest.proofs.put_move.Tie as tie
-
-then-put : {l k m : List ℕ} (at : ℕ) (z : ℤ) → SFits w64 z → SFits w32 z → l ≡ k → m ≡ put l at (i32Bytes (toZ w32 (ofZ w32 (toZ w64 (ofZ w64 z))))) → m ≡ put k at (i32Bytes z)
-then-put {l} at z wide fits e f = f ∙ ap (λ (y : ℤ). put l at (i32Bytes y)) (narrow z (wide .sfits) fits) ∙ ap (λ (x : List ℕ). put x at (i32Bytes z)) e
 
 cast-put-i32 : tie.Need-cast-put-i32
 cast-put-i32 c = search needs

@@ -1,0 +1,126 @@
+-- `probes::send` meets its contract: four numbers, two, or a refusal.
+use Prim.Native.Nat.{ℕ, _^_, _<_}
+use native.Mathlib.Omega.{arith}
+use mathlib.Core.List.{List}
+use mathlib.Core.Path.{_≡_, refl, sym, ap, ap₂, _∙_, subst}
+use lib.IntN.{ℤ}
+use lib.ListN.{length}
+use lib.Signed.{mag}
+use mir.Syntax.{w64}
+use mir.Val.{toZ, ofZ}
+use mir.ValLaws.{toZ-ofZ}
+use denote.Ref.{now}
+use Rattle.readings.proofs.Narrow.{narrow-fits}
+use Rattle.probes.specs.declared.Reply.{Reply}
+use Rattle.probes.specs.Replies.{replyCode, putTwo, replyBytes, Sendable}
+use borrow.Author.Needs.{needs}
+use Rattle.probes.proofs.send.Statement.{statement}
+use Rattle.probes.proofs.send.Tie as tie
+
+-- what the call gets are the numbers, and the bytes that the call before it left
+then-two : {l k m : List ℕ} (at : ℕ) (a b : ℤ) → mag a < 2 ^ 63 → mag b < 2 ^ 63 → l ≡ k → m ≡ putTwo l at (toZ w64 (ofZ w64 a)) (toZ w64 (ofZ w64 b)) → m ≡ putTwo k at a b
+then-two {l} at a b s t e f =
+    f ∙ ap₂ (λ (x y : ℤ). putTwo l at x y) (toZ-ofZ w64 a (record { sfits = s })) (toZ-ofZ w64 b (record { sfits = t })) ∙ ap (λ (x : List ℕ). putTwo x at a b) e
+
+enum-known-reply : tie.Need-enum-known-reply
+enum-known-reply c = search needs
+
+put-two-requires : tie.Need-put-two-requires
+unfolding Sendable
+put-two-requires c κs =
+    let told = c .before .known-told .given in
+    let k = c .before .before in
+    let start = k .before .before .before in
+    let v = subst (λ (r : Reply). Sendable (length (now (start .args .room))) r) (k .reply .given .1) (start .pre) in
+    (omega (arith, v .0), (narrow-fits _ (told .0 .1) (v .1), narrow-fits _ (told .1 .0 .1) (v .2)))
+
+put-two-requires-2 : tie.Need-put-two-requires-2
+unfolding Sendable
+put-two-requires-2 c κs =
+    let p = c .before .before .before in
+    let told = p .before .before .known-told .given in
+    let k = p .before .before .before in
+    let start = k .before .before .before in
+    let v = subst (λ (r : Reply). Sendable (length (now (start .args .room))) r) (k .reply .given .1) (start .pre) in
+    (omega (arith, v .0, p .put-two .kept .0), (narrow-fits _ (told .1 .1 .0 .1) (v .3), narrow-fits _ (told .1 .1 .1 .0 .1) (v .4)))
+
+enum-known-reply-2 : tie.Need-enum-known-reply-2
+enum-known-reply-2 c = search needs
+
+put-two-requires-3 : tie.Need-put-two-requires-3
+unfolding Sendable
+put-two-requires-3 c κs =
+    let told = c .before .known-told2 .given in
+    let k = c .before .before in
+    let start = k .before .before .before in
+    let v = subst (λ (r : Reply). Sendable (length (now (start .args .room))) r) (k .reply2 .given .1) (start .pre) in
+    (omega (arith, v .0), (narrow-fits _ (told .0 .1) (v .1), narrow-fits _ (told .1 .0 .1) (v .2)))
+
+enum-known-reply-3 : tie.Need-enum-known-reply-3
+enum-known-reply-3 c = search needs
+
+code-of-requires : tie.Need-code-of-requires
+unfolding Sendable
+code-of-requires c κs =
+    let k = c .before in
+    let start = k .before .before .before in
+    subst (λ (r : Reply). Sendable (length (now (start .args .room))) r) (k .reply3 .given .1) (start .pre)
+
+same-length : tie.Need-same-length
+same-length c = search needs
+
+returns : tie.Need-returns
+unfolding replyCode replyBytes
+returns c =
+    let q = c .before .before in
+    let p = q .before .before .before .before in
+    let told = p .before .before .known-told .given in
+    let k = p .before .before .before in
+    let g = k .reply .given in
+    let room = now (k .before .before .before .args .room) in (
+      sym (ap replyCode (g .1)),
+      then-two 8 (g .0 .1 .1 .0) (g .0 .1 .1 .1 .0) (told .1 .1 .0 .1) (told .1 .1 .1 .0 .1)
+          (then-two {l = room} 0 (g .0 .0) (g .0 .1 .0) (told .0 .1) (told .1 .0 .1) refl (p .put-two .ensures))
+          (q .put-two2 .ensures)
+          ∙ sym (ap (λ (r : Reply). replyBytes r room) (g .1)),
+    )
+
+same-length-2 : tie.Need-same-length-2
+same-length-2 c = search needs
+
+returns-2 : tie.Need-returns-2
+unfolding replyCode replyBytes
+returns-2 c =
+    let q = c .before .before in
+    let told = q .before .before .known-told2 .given in
+    let k = q .before .before .before in
+    let g = k .reply2 .given in
+    let room = now (k .before .before .before .args .room) in (
+      sym (ap replyCode (g .1)),
+      then-two {l = room} 0 (g .0 .0) (g .0 .1 .0) (told .0 .1) (told .1 .0 .1) refl (q .put-two3 .ensures)
+          ∙ sym (ap (λ (r : Reply). replyBytes r room) (g .1)),
+    )
+
+returns-3 : tie.Need-returns-3
+unfolding replyCode replyBytes
+returns-3 c =
+    let k = c .before .before in
+    let e = k .reply3 .given .1 in
+    (c .code-of .ensures ∙ sym (ap replyCode e), sym (ap (λ (r : Reply). replyBytes r (now (k .before .before .before .args .room))) e))
+
+pub send-spec : {M : Type 1} → statement M
+send-spec =
+    tie.close
+    (tie.spec
+    enum-known-reply
+    put-two-requires
+    put-two-requires-2
+    enum-known-reply-2
+    put-two-requires-3
+    enum-known-reply-3
+    code-of-requires
+    same-length
+    returns
+    same-length-2
+    returns-2
+    returns-3)

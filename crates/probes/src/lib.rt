@@ -1,0 +1,135 @@
+// Calls for tests and tools: a crest's bytes, a question in numbers, and room for the answer.
+use crest::code_of;
+use crest::point;
+use model::Inverse;
+use model::Located;
+use model::Placed;
+use model::Refusal;
+ghost use mathlib.Core.Path.{_≡_};
+ghost use Prim.Native.Nat.{_+_, _≤_};
+ghost use lib.ListN.{length};
+ghost use lib.IntN.{pos};
+ghost use mir.Syntax.{w32};
+ghost use mir.Val.{SFits};
+ghost use Rattle.probes.specs.Replies.{fromPlaced, fromLocated, fromInverse, replyCode, putTwo, replyBytes, Sendable};
+ghost use Rattle.probes.specs.Calls.{positionCall, locateCall, inverseCall};
+
+// What is sent back: numbers of 32 bits for the room, or a refusal.
+pub enum Reply {
+    Four { a: i64, b: i64, c: i64, d: i64 },
+    Two { a: i64, b: i64 },
+    Refused(Refusal),
+}
+
+fn from_placed(answer: Placed) -> Reply
+    ensures { λ r. ⌜ r ≡ fromPlaced answer ⌝ }
+{
+    match answer {
+        Placed::At { x, y, tx, ty } => Reply::Four {
+            a: x,
+            b: y,
+            c: tx,
+            d: ty,
+        },
+        Placed::Refused(why) => Reply::Refused(why),
+    }
+}
+
+fn from_located(answer: Located) -> Reply
+    requires { ⌜ Sendable 16 (fromLocated answer) ⌝ }
+    ensures { λ r. ⌜ r ≡ fromLocated answer ⌝ }
+{
+    match answer {
+        Located::At {
+            station,
+            offset,
+            residual,
+            visits,
+        } => Reply::Four {
+            a: station as i64,
+            b: offset,
+            c: residual,
+            d: visits as i64,
+        },
+        Located::Refused(why) => Reply::Refused(why),
+    }
+}
+
+fn from_inverse(answer: Inverse) -> Reply
+    ensures { λ r. ⌜ r ≡ fromInverse answer ⌝ }
+{
+    match answer {
+        Inverse::At { x, y } => Reply::Two { a: x, b: y },
+        Inverse::Refused(why) => Reply::Refused(why),
+    }
+}
+
+// Two fields of four bytes, one after the other.
+fn put_two(room: &mut [u8], at: usize, a: i64, b: i64)
+    requires { ⌜ at + 8 ≤ length (now room) ⌝ }
+    requires { ⌜ SFits w32 a ⌝ }
+    requires { ⌜ SFits w32 b ⌝ }
+    ensures { λ _. ⌜ now (room .exit) ≡ putTwo (now (room .entry)) at a b ⌝ }
+{
+    fields::put_i32(room, at, a as i32);
+    fields::put_i32(room, at + 4, b as i32);
+}
+
+// A reply into its room; a refusal leaves the room as it came.
+fn send(reply: Reply, room: &mut [u8]) -> u32
+    requires { ⌜ Sendable (length (now room)) reply ⌝ }
+    ensures { λ r. ⌜ r ≡ replyCode reply ⌝ }
+    ensures { λ _. ⌜ now (room .exit) ≡ replyBytes reply (now (room .entry)) ⌝ }
+{
+    match reply {
+        Reply::Four { a, b, c, d } => {
+            put_two(room, 0, a, b);
+            put_two(room, 8, c, d);
+            0
+        }
+        Reply::Two { a, b } => {
+            put_two(room, 0, a, b);
+            0
+        }
+        Reply::Refused(why) => code_of(why),
+    }
+}
+
+// X, Y, Tx, Ty at a station, each i32: 18 first, for room that is not 16 bytes.
+#[no_mangle]
+pub extern "C" fn probe_position(file: &[u8], station: u32, out: &mut [u8]) -> u32
+    ensures { λ r. ⌜ (r, now (out .exit)) ≡ positionCall (now (file .entry)) (pos station) (now (out .entry)) ⌝ }
+{
+    if out.len() != 16 {
+        return 18;
+    }
+    send(
+        from_placed(stations::ask::placed(file, station as i64)),
+        out,
+    )
+}
+
+// Station, offset and residual of a point, and how many stations were visited, each of 32 bits: 18 first, for room that is not 16 bytes.
+#[no_mangle]
+pub extern "C" fn probe_locate(file: &[u8], x: i32, y: i32, out: &mut [u8]) -> u32
+    ensures { λ r. ⌜ (r, now (out .exit)) ≡ locateCall (now (file .entry)) (record { x = x; y = y }) (now (out .entry)) ⌝ }
+{
+    if out.len() != 16 {
+        return 18;
+    }
+    send(from_located(nearest::located(file, point(x, y))), out)
+}
+
+// X, Y at a station and an offset, each i32: 18 first, for room that is not 8 bytes.
+#[no_mangle]
+pub extern "C" fn probe_inverse(file: &[u8], station: u32, offset: i32, out: &mut [u8]) -> u32
+    ensures { λ r. ⌜ (r, now (out .exit)) ≡ inverseCall (now (file .entry)) (pos station) offset (now (out .entry)) ⌝ }
+{
+    if out.len() != 8 {
+        return 18;
+    }
+    send(
+        from_inverse(stations::ask::inverse_of(file, station as i64, offset as i64)),
+        out,
+    )
+}

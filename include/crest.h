@@ -1,11 +1,12 @@
 /* Crest alignments of embankment dams: the calls of the static library of crate `crest`.
  *
  * Lengths and stations are whole millimetres. Plane coordinates and offsets are whole grains, 100 grains to 1 mm.
- * Turning from x towards y is left; left offsets are positive. A direction (c, s) has length 2^30.
+ * Turning from x towards y is left; left offsets are positive. A direction is a pair (c, s) with
+ * c*c + s*s at most 2^31 from 2^60: its length is close to 2^30.
  *
- * Lent bytes are a pointer and a length. Every length is allowed, and no bytes are looked at outside it; a pointer with a
- * length of 0 is not read, and is not null. Bytes that a call changes overlap no others that it is lent. A call keeps
- * nothing between calls, and different threads may call at once with different bytes to change.
+ * Lent bytes are a pointer and a length. Every length is allowed, and no bytes are looked at outside it; with a length of 0
+ * the pointer is not followed. The caller sees to it that the bytes a call changes overlap no others that it is lent, and
+ * that nothing else writes lent bytes, or reads those that are changed, while the call runs. A call keeps nothing for the next.
  *
  * Every call returns 0 where it answers, and else
  *
@@ -21,11 +22,13 @@
  *          outside its used records is not                                                          block
  *      4   a record's kind is damaged, or one of its bytes 1 to 3 or 28 to 31 is not zero           record
  *      5   a record's kind is 5 to 15, of a later edition                                           record
- *      6   a record's length, radius, x or y is out of range                                        record
+ *      6   a record's length (1 to 500,000 mm), radius (a line's 0; an arc's 2 lengths to
+ *          10,000,000 mm either way; a spiral's 1 length to that), x or y (200,000,000 grains
+ *          either way) is out of range                                                              record
  *      7   a direction is not a unit: a record's                                                    record
  *                                     the heading's                                                 0
- *      8   a gap at a join                                                                          earlier record
- *      9   a kink at a join                                                                         earlier record
+ *      8   a gap at a join: more than 100 grains in a coordinate                                    earlier record
+ *      9   a kink at a join: more than 1,000,000 in a component of the direction                    earlier record
  *     10   a reading's number is not finite or not whole                                            0
  *     11   a plane point lies outside the frame of 200,000,000 grains either way, given or
  *          resulting                                                                                0
@@ -71,8 +74,8 @@ uint32_t crest_write(const uint8_t *records, size_t records_len, uint8_t *room, 
  *
  *     0  answered        uint16_t   readings answered
  *     2  refused         uint16_t   readings refused
- *     4  latest number   uint16_t   0 where the latest reading was answered, else its refusal's number
- *     6  first number    uint16_t   the first refusal since the last acknowledgement, 0 for none
+ *     4  latest number   uint16_t   of the latest counted reading: 0 for an answer, else its refusal's number
+ *     6  first number    uint16_t   the first counted refusal since the last acknowledgement, 0 for none
  *     8  first reading   uint16_t   the number of its reading, counted from 1
  *    10  zero            uint16_t   neither read nor changed
  *    12  latest values   int32_t    station in mm | x in grains | 0

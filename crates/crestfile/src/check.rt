@@ -16,7 +16,7 @@ ghost use Rattle.model.specs.Acceptance.{lengthFits, sumRules, fieldRules, bloc
 ghost use Rattle.model.specs.Writer.{countFits};
 
 // 1: a crest is 512, 1024, 1536 or 2048 bytes long.
-pub fn check_length(len: usize) -> Outcome
+fn check_length(len: usize) -> Outcome
     ensures { λ o. ⌜ o ≡ verdict (rule₀ byteCount (lengthFits len) ∷ []) ⌝ }
 {
     match len {
@@ -35,7 +35,7 @@ pub fn part_at(bytes: &[u8], at: usize, n: usize) -> &[u8]
 }
 
 // 2: the sums of every block.
-pub fn check_sums(file: &[u8]) -> Outcome
+fn check_sums(file: &[u8]) -> Outcome
     requires { ⌜ length (now file) ≤ 2048 ⌝ }
     ensures { λ o. ⌜ o ≡ verdict (forEach (sumRules (now (file .entry))) (blockCount (now (file .entry))) 0) ⌝ }
 {
@@ -51,7 +51,7 @@ pub fn check_sums(file: &[u8]) -> Outcome
 }
 
 // 3: the fields of every block, and zeros where nothing is in use.
-pub fn check_fields(file: &[u8]) -> Outcome
+fn check_fields(file: &[u8]) -> Outcome
     requires { ⌜ length (now file) ≤ 2048 ⌝ }
     ensures { λ o. ⌜ o ≡ verdict (forEach (fieldRules (now (file .entry))) (blockCount (now (file .entry))) 0) ⌝ }
 {

@@ -75,7 +75,7 @@ fn radius_good(kind: Kind, l: u64, r: u64) -> bool
 }
 
 // Whether length, radius and anchor are in their ranges.
-pub fn ranges_good(e: Element) -> bool
+fn ranges_good(e: Element) -> bool
     ensures { λ r. ⌜ r ≡ rangesGood e ⌝ }
 {
     if !between(1, e.length, 500000) {

@@ -26,6 +26,7 @@ use Rattle.nearest.proofs.Spaced as spaced
 use Rattle.nearest.proofs.Walked as walked
 use Rattle.alignment.proofs.AcceptCrest.{crest-accepted, crest-some}
 use Rattle.nearest.proofs.Crest as crest
+use Rattle.nearest.proofs.Outcomes.{Answered}
 use Rattle.nearest.proofs.Outcomes as outcomes
 
 -- ---- an accepted alignment, by its elements, and any point
@@ -73,6 +74,10 @@ module _ (es : List Element) (some : 0 < length es) (accepted : AllAccepted es) 
       ((inFrame (p .x) (p .y) ≡ true) × (D es p (judged es p) ≤ 400000000000000) × (judged es p ≡ total es) × (pos 100 <ℤ residualAt es p (judged es p)))
   refused-14 = outcomes.after-end es p
 
+  -- A point is answered exactly when it is in the frame and meets none of these, and the answer is that of the station judged.
+  pub answered-else : (station : ℕ) (offset residual : ℤ) (count : ℕ) → (locatedOn es p ≡ LocatedAt station offset residual count) ↔ Answered es p station offset residual count
+  answered-else = outcomes.answered es p
+
 -- ---- a crest file, and any point
 
 module _ (file : List ℕ) (p : Point) where
@@ -101,6 +106,10 @@ module _ (file : List ℕ) (p : Point) where
       ((checked file ≡ Done) × ((inFrame (p .x) (p .y) ≡ true) × (D (crestElements file) p (judged (crestElements file) p) ≤ 400000000000000)
       × (judged (crestElements file) p ≡ total (crestElements file)) × (pos 100 <ℤ residualAt (crestElements file) p (judged (crestElements file) p))))
   file-refused-14 = outcomes.file-after-end file p
+
+  pub file-answered-else : (station : ℕ) (offset residual : ℤ) (count : ℕ) →
+      (located file p ≡ LocatedAt station offset residual count) ↔ ((checked file ≡ Done) × Answered (crestElements file) p station offset residual count)
+  file-answered-else = outcomes.file-answered file p
 
 -- ---- 5. what 2 and 3 rest on
 

@@ -11,7 +11,9 @@ use Rattle.elements.specs.declared.Placement.{Placement}
 use Rattle.elements.specs.declared.series.Reach.{Reach}
 use Rattle.elements.specs.declared.series.Turn.{Turn}
 use Rattle.elements.specs.Signs.{withSign, signOf}
-use Rattle.elements.specs.Prepared.{backward}
+use Rattle.model.specs.declared.Kind.{Kind}
+use Rattle.elements.specs.declared.Prepared.{Prepared}
+use Rattle.elements.specs.Prepared.{backward, Ready}
 
 -- what F(a; b, d) asks of the square and of its numbers
 pub record Factorable (square a b d : ℕ) : Type 0 where
@@ -43,6 +45,17 @@ pub record Reached (e : Element) (s : ℕ) (r : Reach) : Type 0 where
   pub turned : withSign (signOf (e .radius)) (pos (r .angle)) ≡ angleAt e s
   pub along : withSign (backward (e .kind)) (pos (r .along)) ≡ localAt e s .along
   pub aside : withSign (signOf (e .radius)) (pos (r .aside)) ≡ localAt e s .aside
+
+-- what u and v at a station depend on: kind, length, sign, divisor and half of an element that is prepared, and s mm from its start
+pub data Reachable : Kind → ℕ → ℕ → ℕ → ℕ → ℕ → Type 0 where
+  of : (p : Prepared) (s : ℕ) → Ready p → s ≤ p .element .length → Reachable (p .element .kind) (p .element .length) (p .negative) (p .divisor) (p .half) s
+
+unfoldable pub elementIn : {kind : Kind} {length negative divisor half s : ℕ} → Reachable kind length negative divisor half s → Element
+elementIn (of p s y h) = p .element
+
+-- r is the angle, u and v of every element that has these numbers
+abbrev pub ReachedBy : Kind → ℕ → ℕ → ℕ → ℕ → ℕ → Reach → Type 0
+ReachedBy kind length negative divisor half s r = (x : Reachable kind length negative divisor half s) → Reached (elementIn x) s r
 
 -- the position from the magnitudes of u and v, and the direction from that of the angle
 unfoldable pub pointOf : Element → Reach → Point

@@ -12,7 +12,7 @@ ghost use Rattle.model.specs.Accepted.{Accepted};
 ghost use Rattle.model.specs.Series.{positionOn, tangentOn, angleAt};
 ghost use Rattle.elements.specs.Signs.{withSign, signOf};
 ghost use Rattle.elements.specs.Prepared.{divisorOf, backward, preparedOf, Ready};
-ghost use Rattle.elements.specs.Reached.{Turnable, Near, Reached, pointOf, headingOf, placementOf};
+ghost use Rattle.elements.specs.Reached.{Turnable, Near, Reached, Reachable, ReachedBy, pointOf, headingOf, placementOf};
 
 pub mod rounding;
 mod series;
@@ -86,29 +86,22 @@ pub fn prepare(e: Element) -> Prepared
     }
 }
 
-// The angle, u and v at s mm from the element's start.
-fn reach(p: Prepared, s: u64) -> Reach
-    requires { ⌜ Ready p ⌝ }
-    requires { ⌜ s ≤ p .element .length ⌝ }
-    ensures { λ r. ⌜ Reached (p .element) s r ⌝ }
+// The angle, u and v at s mm from the element's start, by the numbers that they depend on.
+fn reach(kind: Kind, length: u64, negative: u64, divisor: u64, half: u64, s: u64) -> Reach
+    requires { ⌜ Reachable kind length negative divisor half s ⌝ }
+    ensures { λ r. ⌜ ReachedBy kind length negative divisor half s r ⌝ }
 {
-    let e = p.element;
-    let kind = e.kind;
     match kind {
         Kind::Line => Reach {
             angle: 0,
             along: 100 * s,
             aside: 0,
         },
-        Kind::Arc => series::arc(s, series::arc_angle(s, p.half, p.divisor), p.negative),
-        Kind::EntrySpiral => series::spiral(
-            s,
-            series::spiral_angle(s, p.half, p.divisor),
-            p.negative,
-        ),
+        Kind::Arc => series::arc(s, series::arc_angle(s, half, divisor), negative),
+        Kind::EntrySpiral => series::spiral(s, series::spiral_angle(s, half, divisor), negative),
         Kind::ExitSpiral => {
-            let l = e.length - s;
-            series::spiral(l, series::spiral_angle(l, p.half, p.divisor), p.negative)
+            let l = length - s;
+            series::spiral(l, series::spiral_angle(l, half, divisor), negative)
         }
     }
 }
@@ -156,7 +149,9 @@ pub fn position(p: Prepared, s: u64) -> Point
     requires { ⌜ s ≤ p .element .length ⌝ }
     ensures { λ r. ⌜ r ≡ positionOn (p .element) s ⌝ }
 {
-    point_at(p, reach(p, s))
+    let e = p.element;
+    let kind = e.kind;
+    point_at(p, reach(kind, e.length, p.negative, p.divisor, p.half, s))
 }
 
 // The position and the direction at s mm from the element's start.
@@ -165,7 +160,9 @@ pub fn placed(p: Prepared, s: u64) -> Placement
     requires { ⌜ s ≤ p .element .length ⌝ }
     ensures { λ r. ⌜ r ≡ placementOf (positionOn (p .element) s) (tangentOn (p .element) s) ⌝ }
 {
-    let r = reach(p, s);
+    let e = p.element;
+    let kind = e.kind;
+    let r = reach(kind, e.length, p.negative, p.divisor, p.half, s);
     let at = point_at(p, r);
     let heading = heading_at(p, r.angle);
     Placement {

@@ -5,7 +5,8 @@ use native.Mathlib.Omega.{arith}
 use lib.IntN.{ℤ, natAbs}
 use mir.Syntax.{w64}
 use mir.Val.{toZ, ofZ}
-use borrow.Author.Needs.{needs}
+use Rattle.elements.specs.Reached.{Reached, of}
+use Rattle.elements.proofs.Reaching.{of-prepared}
 use Rattle.model.specs.declared.Point.{Point}
 use Rattle.elements.proofs.Extent.{extent}
 use Rattle.elements.proofs.Widths.{held-small}
@@ -14,17 +15,20 @@ use Rattle.elements.proofs.placed.Statement.{statement}
 use Rattle.elements.proofs.placed.Tie as tie
 
 reach-requires : tie.Need-reach-requires
-reach-requires c κs = search needs
+reach-requires c κs = let x = c .before in of (x .args .p) (x .args .s) (x .pre .0) (x .pre .1)
+
+is-reached : (c : tie.After-reach) → let x = c .before .before in Reached (x .args .p .element) (x .args .s) (c .reach .result)
+is-reached c = let x = c .before .before in of-prepared (x .args .s) (x .pre .0) (x .pre .1) (c .reach .ensures)
 
 point-at-requires : tie.Need-point-at-requires
 point-at-requires c κs =
-    let x = c .before in
-    (x .pre .0, reach-near (x .args .p .element) (c .reach .ensures) (x .pre .0 .accepted) (x .pre .1))
+    let x = c .before .before in
+    (x .pre .0, reach-near (x .args .p .element) (is-reached c) (x .pre .0 .accepted) (x .pre .1))
 
 heading-at-requires : tie.Need-heading-at-requires
 heading-at-requires c κs =
-    let x = c .before .before in
-    (x .pre .0, reach-angle (x .args .p .element) (c .before .reach .ensures) (x .pre .0 .accepted) (x .pre .1))
+    let x = c .before .before .before in
+    (x .pre .0, reach-angle (x .args .p .element) (is-reached (c .before)) (x .pre .0 .accepted) (x .pre .1))
 
 -- a field of the result, read back from 64 bits
 field : {p q : Point} (f : Point → ℤ) → p ≡ q → natAbs (f q) ≤ 2 ^ 32 → toZ w64 (ofZ w64 (f p)) ≡ f q
@@ -34,11 +38,11 @@ returns : tie.Need-returns
 returns c =
     let turn = c .before .before in
     let at = turn .before in
-    let x = at .before .before in
+    let x = at .before .before .before in
     let e = x .args .p .element in
     let b = extent (x .pre .0 .accepted) (x .pre .1) in
-    let p = at .point-at .ensures ∙ point-is e (at .before .reach .ensures) in
-    let t = turn .heading-at .ensures ∙ heading-is e (at .before .reach .ensures) in
+    let p = at .point-at .ensures ∙ point-is e (is-reached (at .before)) in
+    let t = turn .heading-at .ensures ∙ heading-is e (is-reached (at .before)) in
     rw (
       field (λ (q : Point). q .x) p (omega (arith, b .x)),
       field (λ (q : Point). q .y) p (omega (arith, b .y)),

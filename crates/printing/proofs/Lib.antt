@@ -1,0 +1,5 @@
+-- What the proofs of several functions use.
+mod Digits
+mod Noting
+pub mod Texts
+mod Words

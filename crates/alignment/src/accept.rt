@@ -66,7 +66,7 @@ fn gather(bytes: &[u8], blocks: bool, n: usize) -> Alignment
     let mut els = empty().elements;
     let mut r = 0;
     while r < n {
-        els[r] = crestfile::record::element(part_at(bytes, start_in(blocks, r), 32));
+        els[r] = records::element(part_at(bytes, start_in(blocks, r), 32));
         r += 1;
     }
     Alignment {

@@ -1,6 +1,6 @@
 // The joins of an alignment: gaps and kinks between an element and the next.
-use crestfile::record::magnitude;
-use crestfile::record::refused;
+use records::magnitude;
+use records::refused;
 use elements::Placement;
 use model::Alignment;
 use model::Outcome;

@@ -3,7 +3,7 @@ use crate::accept::check;
 use crate::accept::start_in;
 use crestfile::check::part_at;
 use crestfile::check::record_count;
-use crestfile::record::refused;
+use records::refused;
 use model::Outcome;
 ghost use mathlib.Core.Path.{_≡_};
 ghost use Rattle.model.specs.Answers.{readerOutcome, readerSpan, readerPart};

@@ -2,7 +2,7 @@
 use crate::accept::of_records;
 use crate::joins::check_joins;
 use crestfile::check::check_record_bytes;
-use crestfile::record::refused;
+use records::refused;
 use crestfile::write::count_fits;
 use crestfile::write::write_blocks;
 use model::Outcome;

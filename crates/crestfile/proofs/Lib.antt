@@ -1,5 +1,4 @@
 -- The crest file: what is written reads back, what is read is written again, and a changed byte is seen.
-pub mod Tests
 pub mod Bytes
 pub mod Fields
 pub mod Parts
@@ -15,9 +14,6 @@ pub mod ReadThenWritten
 pub mod Part
 pub mod SingleByte
 -- The laws of its functions.
-pub mod Rest
-pub mod Magnitude
-pub mod Unit
 pub mod Orders
 pub mod Count
 pub mod Puts

@@ -1,8 +1,9 @@
 // One block of a crest file: its sums and its fields.
+use records::all_zero;
 ghost use mathlib.Core.Path.{_≡_};
 ghost use Prim.Native.Nat.{_≤_, _<_};
 ghost use lib.ListN.{length};
-ghost use Rattle.model.specs.Records.{allZero, sumA, sumB};
+ghost use Rattle.model.specs.Records.{sumA, sumB};
 ghost use Rattle.model.specs.Acceptance.{sumsAgree, useFits, fieldsFit};
 
 // The two sums of a block, modulo 65,536.
@@ -16,20 +17,6 @@ fn wide(x: u8) -> usize
     ensures { λ r. ⌜ r < 256 ⌝ }
 {
     x as usize
-}
-
-// Whether all bytes are zero.
-pub fn all_zero(s: &[u8]) -> bool
-    ensures { λ r. ⌜ r ≡ allZero (now (s .entry)) ⌝ }
-{
-    let mut i = 0;
-    while i < s.len() {
-        if s[i] != 0 {
-            return false;
-        }
-        i += 1;
-    }
-    true
 }
 
 // The sums of bytes 0 to 507: A adds them up, and B counts byte i 508 - i times.

@@ -1,8 +1,8 @@
 // The refusals of a crest file by its bytes, in their order: its length, its blocks, its records.
 use crate::block::fields_fit;
 use crate::block::sums_agree;
-use crate::record::check_record;
-use crate::record::refused;
+use records::check_record;
+use records::refused;
 use model::Outcome;
 ghost use mathlib.Core.Bool.{true};
 ghost use mathlib.Core.List.{[], _∷_};

@@ -1,5 +1,4 @@
 // The crest file: blocks and records, their refusals, and the file of record bytes.
 mod block;
 pub mod check;
-pub mod record;
 pub mod write;

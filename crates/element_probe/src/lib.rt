@@ -52,8 +52,8 @@ pub extern "C" fn element_positions(rec: &[u8], count: u32) -> i64
     if rec.len() != 32 {
         return 0;
     }
-    match crestfile::record::check_record(rec, 0) {
+    match records::check_record(rec, 0) {
         Outcome::Refused(_) => 0,
-        Outcome::Done => positions(elements::prepare(crestfile::record::element(rec)), count),
+        Outcome::Done => positions(elements::prepare(records::element(rec)), count),
     }
 }

@@ -71,9 +71,9 @@ fn block_differs(b: &[u8]) -> u64
     ensures { λ r. ⌜ r ≤ 8 ⌝ }
 {
     let rec = &b[0..32];
-    match crestfile::record::check_record(rec, 0) {
+    match records::check_record(rec, 0) {
         Outcome::Refused(_) => 8,
-        Outcome::Done => rows_differ(b, elements::prepare(crestfile::record::element(rec))),
+        Outcome::Done => rows_differ(b, elements::prepare(records::element(rec))),
     }
 }
 

@@ -59,7 +59,7 @@ pub fn locate(a: Alignment, q: Point) -> Located
     requires { ⌜ AlignmentAccepted a ⌝ }
     ensures { λ r. ⌜ r ≡ locatedOn (used a) q ⌝ }
 {
-    if !crestfile::record::in_frame(q.x, q.y) {
+    if !records::in_frame(q.x, q.y) {
         return refused(11);
     }
     let w = walk(a, q);

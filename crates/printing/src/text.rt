@@ -1,5 +1,5 @@
 // Words and numbers in lent room, from a position on. Each function gives the position after what it wrote.
-use crestfile::record::magnitude;
+use records::magnitude;
 ghost use mathlib.Core.Path.{_≡_};
 ghost use Prim.Native.Nat.{_+_, _≤_};
 ghost use lib.ListN.{length};

@@ -1,6 +1,6 @@
 // Stations of an accepted alignment: how far they run, where one lies, and what is asked by station.
-use crestfile::record::in_frame;
-use crestfile::record::magnitude;
+use records::in_frame;
+use records::magnitude;
 use elements::Placement;
 use elements::rounding::near_one;
 use model::Alignment;

@@ -1,6 +1,6 @@
 // The stake-out: how far to move a stake to its target, forward along the heading and to the left of it.
-use crestfile::record::in_frame;
-use crestfile::record::is_unit;
+use records::in_frame;
+use records::is_unit;
 use elements::rounding::near_one;
 use model::Move;
 use model::Point;

@@ -1,0 +1,177 @@
+// One record of a crest: its element, and its refusals.
+use model::Element;
+use model::Kind;
+use model::KindByte;
+use model::Outcome;
+use model::Refusal;
+ghost use mathlib.Core.Path.{_≡_};
+ghost use Prim.Native.Nat.{_+_, _≤_};
+ghost use mathlib.Core.Bool.{_&&_};
+ghost use lib.Dec.{leb};
+ghost use lib.ListN.{length};
+ghost use lib.IntN.{natAbs};
+ghost use Rattle.model.specs.Kinds.{decide};
+ghost use Rattle.model.specs.Records.{i32At, allZero};
+ghost use Rattle.model.specs.Refusals.{verdict};
+ghost use Rattle.model.specs.Acceptance.{kindIn, elementOf, reservedZero, inFrame, radiusGood, rangesGood, isUnit, recordRules};
+
+// Whether all bytes are zero.
+pub fn all_zero(s: &[u8]) -> bool
+    ensures { λ r. ⌜ r ≡ allZero (now (s .entry)) ⌝ }
+{
+    let mut i = 0;
+    while i < s.len() {
+        if s[i] != 0 {
+            return false;
+        }
+        i += 1;
+    }
+    true
+}
+
+// The absolute value, which of the least i64 is no i64.
+pub fn magnitude(z: i64) -> u64
+    ensures { λ r. ⌜ r ≡ natAbs z ⌝ }
+{
+    if z >= 0 { z as u64 } else { (!z) as u64 + 1 }
+}
+
+// Whether a point lies in the frame.
+pub fn in_frame(x: i64, y: i64) -> bool
+    ensures { λ r. ⌜ r ≡ inFrame x y ⌝ }
+{
+    if magnitude(x) > 200000000 {
+        return false;
+    }
+    magnitude(y) <= 200000000
+}
+
+// Whether c² + s² is at most 2^31 from 2^60. Components above 2^31 are no unit's, and the squares of others add up to a u64.
+pub fn is_unit(c: i64, s: i64) -> bool
+    ensures { λ r. ⌜ r ≡ isUnit c s ⌝ }
+{
+    let m = magnitude(c);
+    let n = magnitude(s);
+    if m > 0x8000_0000 {
+        return false;
+    }
+    if n > 0x8000_0000 {
+        return false;
+    }
+    let sum = m * m + n * n;
+    if sum > 0x1000_0000_8000_0000 {
+        return false;
+    }
+    sum >= 0x0fff_ffff_8000_0000
+}
+
+fn between(low: u64, x: u64, high: u64) -> bool
+    ensures { λ r. ⌜ r ≡ (leb low x && leb x high) ⌝ }
+{
+    if x < low {
+        return false;
+    }
+    x <= high
+}
+
+// Whether a radius of magnitude r fits an element of this kind and length.
+fn radius_good(kind: Kind, l: u64, r: u64) -> bool
+    requires { ⌜ l ≤ 500000 ⌝ }
+    ensures { λ b. ⌜ b ≡ radiusGood kind l r ⌝ }
+{
+    match kind {
+        Kind::Line => r == 0,
+        Kind::Arc => between(2 * l, r, 10000000),
+        Kind::EntrySpiral => between(l, r, 10000000),
+        Kind::ExitSpiral => between(l, r, 10000000),
+    }
+}
+
+// Whether length, radius and anchor are in their ranges.
+fn ranges_good(e: Element) -> bool
+    ensures { λ r. ⌜ r ≡ rangesGood e ⌝ }
+{
+    if !between(1, e.length, 500000) {
+        return false;
+    }
+    let kind = e.kind;
+    if !radius_good(kind, e.length, magnitude(e.radius)) {
+        return false;
+    }
+    in_frame(e.x, e.y)
+}
+
+// The kind that a byte names, and a line where it names none.
+fn kind_in(byte: u8) -> Kind
+    ensures { λ r. ⌜ r ≡ kindIn (decide byte) ⌝ }
+{
+    match model::kind_of(byte) {
+        KindByte::Damaged => Kind::Line,
+        KindByte::Known(kind) => kind,
+        KindByte::Later => Kind::Line,
+    }
+}
+
+fn wide_at(rec: &[u8], at: usize) -> i64
+    requires { ⌜ at + 4 ≤ length (now rec) ⌝ }
+    ensures { λ r. ⌜ r ≡ i32At (now (rec .entry)) at ⌝ }
+{
+    fields::i32_at(rec, at) as i64
+}
+
+// The element that a record's 32 bytes give.
+pub fn element(rec: &[u8]) -> Element
+    requires { ⌜ length (now rec) ≡ 32 ⌝ }
+    ensures { λ r. ⌜ r ≡ elementOf (now (rec .entry)) ⌝ }
+{
+    Element {
+        kind: kind_in(rec[0]),
+        length: fields::u32_at(rec, 4) as u64,
+        x: wide_at(rec, 8),
+        y: wide_at(rec, 12),
+        c: wide_at(rec, 16),
+        s: wide_at(rec, 20),
+        radius: wide_at(rec, 24),
+    }
+}
+
+// Whether the bytes of a record that must be zero are.
+fn reserved_zero(rec: &[u8]) -> bool
+    requires { ⌜ length (now rec) ≡ 32 ⌝ }
+    ensures { λ r. ⌜ r ≡ reservedZero (now (rec .entry)) ⌝ }
+{
+    if !all_zero(&rec[1..4]) {
+        return false;
+    }
+    all_zero(&rec[28..32])
+}
+
+// The refusal with this number and place.
+pub fn refused(number: u32, place: u32) -> Outcome
+    ensures { λ o. ⌜ o ≡ Outcome.Refused (record { number = number; place = place }) ⌝ }
+{
+    Outcome::Refused(Refusal { number, place })
+}
+
+// The refusals of record r by its own 32 bytes: kind, reserved bytes, ranges, direction.
+pub fn check_record(rec: &[u8], r: u32) -> Outcome
+    requires { ⌜ length (now rec) ≡ 32 ⌝ }
+    ensures { λ o. ⌜ o ≡ verdict (recordRules (now (rec .entry)) r) ⌝ }
+{
+    match model::kind_of(rec[0]) {
+        KindByte::Damaged => return refused(4, r),
+        KindByte::Later => return refused(5, r),
+        KindByte::Known(_) => {}
+    }
+    if !reserved_zero(rec) {
+        return refused(4, r);
+    }
+    let e = element(rec);
+    if !ranges_good(e) {
+        return refused(6, r);
+    }
+    if !is_unit(e.c, e.s) {
+        return refused(7, r);
+    }
+    Outcome::Done
+}

@@ -1,0 +1,198 @@
+//! crest_plane_reading, crest_line_reading and crest_acknowledge: each by itself, in any order on one run, and to a full run.
+
+use crest_tests::compare::{hex, Compare};
+use crest_tests::random::Random;
+use crest_tests::rules::{self, Crest, Reading};
+use crest_tests::{acknowledge, reading};
+
+fn plane_point(random: &mut Random, crest: &Crest) -> Reading {
+    let (x, y) = random.point_near(crest);
+    if random.one_in(6) {
+        let marks = [-200_000_000, 0, 200_000_000, x, y];
+        let x = random.f64_near(&marks, x - 500, x + 500);
+        let y = random.f64_near(&marks, y - 500, y + 500);
+        return Reading::PlanePoint(x, y);
+    }
+    Reading::PlanePoint(x as f64, y as f64)
+}
+
+fn line_place(random: &mut Random, crest: &Crest) -> Reading {
+    let station = random.station_on(crest);
+    let station = random.f64_near(&[0, crest.total, station], 0, crest.total);
+    let offset = random.f64_near(&[-20_000_000, 0, 20_000_000], -20_000_000, 20_000_000);
+    if random.one_in(6) {
+        return Reading::LinePlace(station, random.odd_multiple(20_000_000) as f64);
+    }
+    Reading::LinePlace(station, offset)
+}
+
+/// Readings of one sort on runs of any state and bytes of any number.
+fn readings(name: &'static str, thousandths: u64, make: fn(&mut Random, &Crest) -> Reading, given: &[usize]) {
+    let mut compare = Compare::share(name, thousandths);
+    let mut random = compare.random();
+    let mut seen = [0; 19];
+    let mut searched = 0;
+    while compare.more() {
+        let (records, crest) = random.crest();
+        let file = rules::blocks_of(&records);
+        let accepted = Ok(crest.clone());
+        for _ in 0..40 {
+            let asked = make(&mut random, &crest);
+            let damaged = if random.one_in(8) { Some(random.file_of(&records)) } else { None };
+            let (file, told) = match &damaged {
+                Some(damaged) => (damaged, rules::check(damaged)),
+                None => (&file, accepted.clone()),
+            };
+            let run = if random.one_in(10) { random.lent(24) } else { random.run() };
+            let shift = random.below(16);
+            let value = compare.room(
+                || format!("{asked:?} on file {}", hex(file)),
+                &run,
+                shift,
+                |run| reading(file, asked, run),
+                |run| rules::reading_call(&told, asked, run),
+            );
+            seen[(value % 256) as usize] += 1;
+            // The station that the walk finds is the least of least D among all.
+            if let (Reading::PlanePoint(x, y), Ok(crest)) = (asked, &told) {
+                if crest.total <= 300 && random.one_in(4) {
+                    if let (Some(x), Some(y)) = (rules::whole(x.to_bits()), rules::whole(y.to_bits())) {
+                        if x.abs() <= 200_000_000 && y.abs() <= 200_000_000 {
+                            let walked = crest.walk((x, y));
+                            let judged = crest.judged((x, y));
+                            searched += 1;
+                            compare.holds(
+                                || format!("{asked:?} on file {}: judged {judged:?}, {walked:?}", hex(file)),
+                                judged == (walked.station, walked.least),
+                            );
+                        }
+                    }
+                }
+            }
+        }
+        compare.holds(|| "the crest's bytes are unchanged".to_string(), file == rules::blocks_of(&records));
+    }
+    if searched > 0 {
+        println!("{name}: every station looked at for {searched} points");
+    }
+    compare.covers(&seen, given);
+    compare.done();
+}
+
+#[test]
+fn crest_plane_reading() {
+    readings("crest_plane_reading", 180, plane_point, &[0, 1, 2, 3, 4, 5, 6, 7, 8, 9, 10, 11, 12, 13, 14, 16, 18]);
+}
+
+#[test]
+fn crest_line_reading() {
+    readings("crest_line_reading", 130, line_place, &[0, 1, 2, 3, 4, 5, 6, 7, 8, 9, 10, 11, 15, 16, 18]);
+}
+
+#[test]
+fn crest_acknowledge() {
+    let mut compare = Compare::share("crest_acknowledge", 50);
+    let mut random = compare.random();
+    while compare.more() {
+        let run = if random.one_in(2) { random.lent(24) } else { random.run() };
+        let shift = random.below(16);
+        compare.room(|| "run".to_string(), &run, shift, acknowledge, rules::acknowledge_call);
+    }
+    compare.done();
+}
+
+/// Calls in any order on one run that began fresh, and after each what the run says of its history.
+#[test]
+fn any_order() {
+    let mut compare = Compare::share("any_order", 70);
+    let mut random = compare.random();
+    while compare.more() {
+        let mut run = vec![0; 24];
+        let (mut answered, mut refused, mut latest, mut first) = (0u16, 0u16, 0u16, None);
+        let (records, crest) = random.crest();
+        let file = rules::blocks_of(&records);
+        let accepted = Ok(crest.clone());
+        let damaged = random.file_of(&records);
+        let told_damaged = rules::check(&damaged);
+        for _ in 0..20 + random.below(180) {
+            let shift = random.below(16);
+            let (file, told) = if random.one_in(5) { (&damaged, &told_damaged) } else { (&file, &accepted) };
+            let before = run.clone();
+            if random.one_in(8) {
+                compare.room(
+                    || "acknowledge".to_string(),
+                    &before,
+                    shift,
+                    |room| {
+                        let value = acknowledge(room);
+                        run.copy_from_slice(room);
+                        value
+                    },
+                    rules::acknowledge_call,
+                );
+                first = None;
+            } else {
+                let asked = if random.one_in(2) { plane_point(&mut random, &crest) } else { line_place(&mut random, &crest) };
+                let value = compare.room(
+                    || format!("{asked:?} on file {}", hex(file)),
+                    &before,
+                    shift,
+                    |room| {
+                        let value = reading(file, asked, room);
+                        run.copy_from_slice(room);
+                        value
+                    },
+                    |room| rules::reading_call(told, asked, room),
+                );
+                latest = (value % 256) as u16;
+                if latest == 0 {
+                    answered += 1;
+                } else {
+                    refused += 1;
+                    first = first.or(Some((latest, answered + refused)));
+                }
+            }
+            let (number, at) = first.unwrap_or((0, 0));
+            let shown = [0, 2, 4, 6, 8, 10].map(|at| rules::u16_at(&run, at));
+            let stale = latest != 0 && run[12..] != [0; 12];
+            compare.holds(
+                || format!("run {} after its calls", hex(&run)),
+                shown == [answered, refused, latest, number, at, 0] && !stale,
+            );
+        }
+    }
+    compare.done();
+}
+
+/// A fresh run takes 65,535 readings and no more.
+#[test]
+fn full_run() {
+    let mut compare = Compare::cases("full_run");
+    let file = {
+        let mut record = [0; 32];
+        record[0] = 1;
+        rules::put_i32(&mut record, 4, 10);
+        rules::put_i32(&mut record, 16, rules::ONE);
+        rules::blocks_of(&record)
+    };
+    let told = rules::check(&file);
+    let mut run = vec![0; 24];
+    let mut random = compare.random();
+    for number in 1..=65_600 {
+        let asked = Reading::LinePlace(random.below(14) as f64, 300.0);
+        let before = run.clone();
+        let value = compare.room(
+            || format!("{asked:?}"),
+            &before,
+            0,
+            |room| {
+                let value = reading(&file, asked, room);
+                run.copy_from_slice(room);
+                value
+            },
+            |room| rules::reading_call(&told, asked, room),
+        );
+        compare.holds(|| format!("reading {number} is taken: {value}"), (value == 16) == (number > 65_535));
+    }
+    compare.done();
+}

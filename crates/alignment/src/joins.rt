@@ -1,10 +1,10 @@
 // The joins of an alignment: gaps and kinks between an element and the next.
-use records::magnitude;
-use records::refused;
 use elements::Placement;
 use model::Alignment;
 use model::Outcome;
 use model::Point;
+use records::magnitude;
+use records::refused;
 ghost use mathlib.Core.Path.{_≡_};
 ghost use lib.Dec.{leb};
 ghost use lib.IntN.{natAbs, _-ℤ_};

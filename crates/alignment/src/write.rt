@@ -2,10 +2,10 @@
 use crate::accept::of_records;
 use crate::joins::check_joins;
 use crestfile::check::check_record_bytes;
-use records::refused;
 use crestfile::write::count_fits;
 use crestfile::write::write_blocks;
 use model::Outcome;
+use records::refused;
 ghost use mathlib.Core.Path.{_≡_};
 ghost use lib.ListN.{length};
 ghost use Rattle.model.specs.Writer.{writerOutcome, written};

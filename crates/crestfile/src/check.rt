@@ -1,9 +1,9 @@
 // The refusals of a crest file by its bytes, in their order: its length, its blocks, its records.
 use crate::block::fields_fit;
 use crate::block::sums_agree;
+use model::Outcome;
 use records::check_record;
 use records::refused;
-use model::Outcome;
 ghost use mathlib.Core.Bool.{true};
 ghost use mathlib.Core.List.{[], _∷_};
 ghost use mathlib.Core.Path.{_≡_};

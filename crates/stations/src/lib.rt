@@ -1,6 +1,4 @@
 // Stations of an accepted alignment: how far they run, where one lies, and what is asked by station.
-use records::in_frame;
-use records::magnitude;
 use elements::Placement;
 use elements::rounding::near_one;
 use model::Alignment;
@@ -9,6 +7,8 @@ use model::Inverse;
 use model::Placed;
 use model::Point;
 use model::Refusal;
+use records::in_frame;
+use records::magnitude;
 ghost use mathlib.Core.Bool.{_&&_};
 ghost use mathlib.Core.List.{[], _∷_};
 ghost use mathlib.Core.Path.{_≡_};

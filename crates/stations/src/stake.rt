@@ -1,10 +1,10 @@
 // The stake-out: how far to move a stake to its target, forward along the heading and to the left of it.
-use records::in_frame;
-use records::is_unit;
 use elements::rounding::near_one;
 use model::Move;
 use model::Point;
 use model::Refusal;
+use records::in_frame;
+use records::is_unit;
 ghost use mathlib.Core.Path.{_≡_};
 ghost use lib.IntN.{_+ℤ_, _*ℤ_};
 ghost use Rattle.model.specs.Rounding.{ONE, near};

@@ -4,6 +4,7 @@ use crestfile::check::check_blocks;
 use crestfile::check::check_records;
 use crestfile::check::part_at;
 use crestfile::check::record_count;
+use crestfile::check::record_start;
 use model::Alignment;
 use model::Element;
 use model::Kind;
@@ -32,11 +33,7 @@ pub fn start_in(blocks: bool, r: usize) -> usize
     requires { ⌜ r < 60 ⌝ }
     ensures { λ n. ⌜ n ≡ startIn blocks r ⌝ }
 {
-    if blocks {
-        512 * (r / 15) + 32 * (r % 15)
-    } else {
-        32 * r
-    }
+    if blocks { record_start(r) } else { 32 * r }
 }
 
 // No elements.

@@ -8,11 +8,7 @@ pub mod BlockRules
 pub mod Blocks
 pub mod Crest
 pub mod WriterRules
-pub mod WrittenThenRead
-pub mod WrittenBytes
-pub mod ReadThenWritten
 pub mod Part
-pub mod SingleByte
 -- The laws of its functions.
 pub mod Orders
 pub mod Count

@@ -7,10 +7,10 @@ use records::refused;
 ghost use mathlib.Core.Bool.{true};
 ghost use mathlib.Core.List.{[], _∷_};
 ghost use mathlib.Core.Path.{_≡_};
-ghost use Prim.Native.Nat.{_+_, _≤_};
+ghost use Prim.Native.Nat.{_+_, _≤_, _<_};
 ghost use lib.ListN.{length};
 ghost use denote.Ref.{ptr};
-ghost use Rattle.model.specs.Records.{part, blockCount, recordBytes, countOf, recordOf};
+ghost use Rattle.model.specs.Records.{part, blockCount, recordStart, recordBytes, countOf, recordOf};
 ghost use Rattle.model.specs.Refusals.{rule₀, verdict, forEach, byteCount};
 ghost use Rattle.model.specs.Acceptance.{lengthFits, sumRules, fieldRules, blocksRules, recordRules};
 ghost use Rattle.model.specs.Writer.{countFits};
@@ -90,6 +90,14 @@ pub fn record_count(file: &[u8]) -> usize
     15 * last + fields::u16_at(file, 512 * last + 482) as usize
 }
 
+// Where record r, counted from 0 over all blocks, starts in a file.
+pub fn record_start(r: usize) -> usize
+    requires { ⌜ r < 60 ⌝ }
+    ensures { λ n. ⌜ n ≡ recordStart r ⌝ }
+{
+    512 * (r / 15) + 32 * (r % 15)
+}
+
 // 4 to 7: every record of a file whose blocks are accepted, where it stands in the file.
 pub fn check_records(file: &[u8]) -> Outcome
     requires { ⌜ verdict (blocksRules (now file)) ≡ Outcome.Done ⌝ }
@@ -98,7 +106,7 @@ pub fn check_records(file: &[u8]) -> Outcome
     let n = record_count(file);
     let mut r = 0;
     while r < n {
-        let at = 512 * (r / 15) + 32 * (r % 15);
+        let at = record_start(r);
         match check_record(part_at(file, at, 32), r as u32) {
             Outcome::Refused(x) => return Outcome::Refused(x),
             Outcome::Done => {}

@@ -4,6 +4,4 @@ pub mod Verdict
 pub mod Accepted
 pub mod Judged
 pub mod Answers
-pub mod Examples
-pub mod Program
-pub mod WrongPrograms
+pub mod Positions

@@ -16,4 +16,3 @@ pub mod Readings
 pub mod Run
 pub mod Histories
 pub mod Program
-pub mod Examples

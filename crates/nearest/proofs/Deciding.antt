@@ -16,7 +16,7 @@ use Rattle.model.specs.Stations.{total, D}
 use Rattle.model.specs.Judged.{judged, residualAt, offsetAt}
 use Rattle.model.specs.Walk.{visitCount}
 use Rattle.model.specs.Answers.{locatedOn}
-use Rattle.nearest.proofs.Outcomes.{at-end-fails, count-is, outside-frame, too-far, before-start, after-end, answered}
+use Rattle.walk_laws.proofs.Outcomes.{at-end-fails, count-is, outside-frame, too-far, before-start, after-end, answered}
 
 -- a test at an end of the alignment
 test-true : (s t : ℕ) (a b : ℤ) → (eqb s t && ltZ a b) ≡ true → (s ≡ t) × (a <ℤ b)

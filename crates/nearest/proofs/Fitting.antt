@@ -19,7 +19,7 @@ use Rattle.model.specs.Answers.{locatedOn}
 use Rattle.model.proofs.Judged.{judged-least}
 use Rattle.elements.proofs.Extent.{near-within}
 use Rattle.stations.proofs.StationTotal.{total-within}
-use Rattle.nearest.proofs.Outcomes.{answered}
+use Rattle.walk_laws.proofs.Outcomes.{answered}
 use Rattle.nearest.proofs.Placing.{placeable}
 
 pub record Fits (station : ℕ) (offset residual : ℤ) : Type 0 where

@@ -21,9 +21,9 @@ use Rattle.nearest.specs.declared.Pass.the-variants.{First, Second}
 use Rattle.nearest.specs.declared.Seen.{Seen}
 use Rattle.nearest.specs.Search.{InFrame, nearer, seenAt, seenOver, passOver, walkedOf}
 use Rattle.nearest.proofs.Arrays.{accepted-length}
-use Rattle.nearest.proofs.Own.{D-own}
-use Rattle.nearest.proofs.Visits.{Place, here, later, place, not-in-none}
-use Rattle.nearest.proofs.Walked.{LeastIn, walk-best, walk-station}
+use Rattle.walk_laws.proofs.Own.{D-own}
+use Rattle.walk_laws.proofs.Visits.{Place, here, later, place, not-in-none}
+use Rattle.walk_laws.proofs.Walked.{LeastIn, walk-best, walk-station}
 use Rattle.nearest.proofs.Seeing.{seenOver-++, seenOver-best, seenOver-visits}
 use Rattle.nearest.proofs.Passing.{own-between, first-is, second-is}
 

@@ -23,8 +23,8 @@ use Rattle.nearest.specs.declared.Seen.{Seen}
 use Rattle.nearest.specs.Search.{seenAt, seenOver, onElement, above, endVisit, firstOn, passVisits, passOn, passOver}
 use Rattle.stations.proofs.StationTotal.{total-first}
 use Rattle.nearest.proofs.Arrays.{first-accepted}
-use Rattle.nearest.proofs.Own.{D-own, total-++}
-use Rattle.nearest.proofs.Visits.{Rising, none, next, rising-from, multiples-rise, bestOf-≤}
+use Rattle.walk_laws.proofs.Own.{D-own, total-++}
+use Rattle.walk_laws.proofs.Visits.{Rising, none, next, rising-from, multiples-rise, bestOf-≤}
 use Rattle.nearest.proofs.Seeing.{seenOver-++, seenOver-best, seenOver-visits}
 
 -- ---- one element: its visits are own stations, and a distance that is the same on these gives the same

@@ -21,7 +21,7 @@ use Rattle.model.proofs.Answers.{located-accepted, located-before}
 use Rattle.alignment.proofs.AcceptCrest.{crest-accepted, crest-some}
 use Rattle.stations.proofs.AskSmall.{placed-small, inverse-of-small}
 use Rattle.stations.proofs.StationTotal.{total-within}
-use Rattle.nearest.proofs.Outcomes.{answered, count-is}
+use Rattle.walk_laws.proofs.Outcomes.{answered, count-is}
 use Rattle.nearest.proofs.Fitting.{Fits, answer-fits}
 use Rattle.answers.proofs.Storable.{most-elements}
 use Rattle.crest.specs.Codes.{Small}

@@ -8,9 +8,9 @@ use Rattle.model.specs.declared.Point.{Point}
 use Rattle.model.specs.Accepted.{AllAccepted}
 use Rattle.model.specs.Stations.{total}
 use Rattle.model.specs.Walk.{visitCount}
-use Rattle.nearest.proofs.Visits.{Rising, none, next, first-rises}
-use Rattle.nearest.proofs.Walked.{second-rises}
-use Rattle.nearest.proofs.Outcomes.{count-is}
+use Rattle.walk_laws.proofs.Visits.{Rising, none, next, first-rises}
+use Rattle.walk_laws.proofs.Walked.{second-rises}
+use Rattle.walk_laws.proofs.Outcomes.{count-is}
 
 rising-length : {lo hi : ℕ} {vs : List ℕ} → Rising hi lo vs → length vs ≤ hi - lo
 rising-length none = omega arith

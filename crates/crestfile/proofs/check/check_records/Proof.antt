@@ -1,5 +1,5 @@
 -- `crestfile::check::check_records` meets its contract. The loop's invariant: the records before `r` refuse nothing; record `r` is 32 bytes of the file itself.
-use Prim.Native.Nat.{ℕ, _+_, _-_, _≤_}
+use Prim.Native.Nat.{ℕ, _+_, _-_, _<_, _≤_}
 use mathlib.Core.List.{List}
 use mathlib.Core.Path.{_≡_, sym, ap, _∙_}
 use native.Mathlib.Omega.{arith}
@@ -28,7 +28,7 @@ abbrev μ-loop : tie.MeasureT-loop
 -- record r where it stands in the file
 here : (c : tie.In-loop Inv-loop μ-loop) → let file = c .before .before .before .before .args .file .now in
     let r = c .before .loop .r in
-    (part file (recordStart r) 32 ≡ recordOf (recordBytes file) r) × (recordStart r + 32 ≤ length file) × (r ≤ 60)
+    (part file (recordStart r) 32 ≡ recordOf (recordBytes file) r) × (recordStart r + 32 ≤ length file) × (r < 60)
 here c =
     let s = c .before .before .before .before in
     let r = c .before .loop .r in
@@ -36,11 +36,13 @@ here c =
     let w = record-within _ r (s .pre) (omega arith) in
     (w .0, w .1, omega (arith, blocks→counted _ (s .pre)))
 
-tested : (c : tie.After-check-record Inv-loop μ-loop) → verdict (rulesOf (c .before .before .before .before .before .before .args .file .now) (c .before .before .before .loop .r)) ≡ c .check-record .result
+tested : (c : tie.After-check-record Inv-loop μ-loop) → verdict (rulesOf (c .before .before .before .before .before .before .before .args .file .now) (c .before .before .before .before .loop .r)) ≡ c .check-record .result
 tested c =
-    let r = c .before .before .before .loop .r in
-    let w = here (c .before .before) in
-    sym (c .check-record .ensures ∙ ap (λ x. verdict (recordRules x r)) (c .before .part-at .ensures .0 ∙ w .0))
+    let r = c .before .before .before .before .loop .r in
+    let file = c .before .before .before .before .before .before .before .args .file .now in
+    let start = c .before .before .record-start .ensures in
+    let w = here (c .before .before .before) in
+    sym (c .check-record .ensures ∙ ap (λ x. verdict (recordRules x r)) (c .before .part-at .ensures .0 ∙ ap (λ at. part file at 32) start ∙ w .0))
 
 record-count-requires : tie.Need-record-count-requires Inv-loop μ-loop
 record-count-requires c κs = search needs
@@ -48,23 +50,20 @@ record-count-requires c κs = search needs
 loop-holds : tie.Need-loop-holds Inv-loop μ-loop
 loop-holds c = left-all _ _
 
-mul-at : tie.Need-mul-at Inv-loop μ-loop
-mul-at c = omega (arith, here c)
-
-mul-at-2 : tie.Need-mul-at-2 Inv-loop μ-loop
-mul-at-2 c = omega (arith, here c)
-
-add-at : tie.Need-add-at Inv-loop μ-loop
-add-at c = omega (arith, here c)
+record-start-requires : tie.Need-record-start-requires Inv-loop μ-loop
+record-start-requires c κs = omega (arith, here c)
 
 part-at-requires : tie.Need-part-at-requires Inv-loop μ-loop
-part-at-requires c κs = here c .1
+part-at-requires c κs = rw (c .record-start .ensures) (here (c .before) .1)
 
 cast-check-record : tie.Need-cast-check-record Inv-loop μ-loop
-cast-check-record c = omega (arith, here (c .before))
+cast-check-record c = omega (arith, here (c .before .before))
 
 check-record-requires : tie.Need-check-record-requires Inv-loop μ-loop
-check-record-requires c κs = rw (c .part-at .ensures .0) (length-part (c .before .before .before .before .before .args .file .now) (recordStart (c .before .before .loop .r)) 32 (here (c .before) .1))
+check-record-requires c κs =
+    let file = c .before .before .before .before .before .before .args .file .now in
+    let r = c .before .before .before .loop .r in
+    rw (c .part-at .ensures .0, c .before .record-start .ensures) (length-part file (recordStart r) 32 (here (c .before .before) .1))
 
 enum-known-x : tie.Need-enum-known-x Inv-loop μ-loop
 enum-known-x c = search needs
@@ -72,8 +71,8 @@ enum-known-x c = search needs
 returns : tie.Need-returns Inv-loop μ-loop
 returns c =
     let t = c .before .before .before in
-    let n = t .before .before .before .before .record-count .ensures in
-    rw (← n) (sym (left-refused _ _ (omega arith) (tested t ∙ c .before .x .given .1) (t .before .before .before .loop .inv)))
+    let n = t .before .before .before .before .before .record-count .ensures in
+    rw (← n) (sym (left-refused _ _ (omega arith) (tested t ∙ c .before .x .given .1) (t .before .before .before .before .loop .inv)))
 
 enum-told : tie.Need-enum-told Inv-loop μ-loop
 enum-told c = search needs
@@ -87,7 +86,7 @@ loop-less c = search needs
 loop-again : tie.Need-loop-again Inv-loop μ-loop
 loop-again c =
     let t = c .before .before in
-    left-next _ _ (omega arith) (tested t ∙ c .enum-told .given .1) (t .before .before .before .loop .inv)
+    left-next _ _ (omega arith) (tested t ∙ c .enum-told .given .1) (t .before .before .before .before .loop .inv)
 
 returns-2 : tie.Need-returns-2 Inv-loop μ-loop
 returns-2 c =
@@ -102,9 +101,7 @@ check-records-spec =
     μ-loop
     record-count-requires
     loop-holds
-    mul-at
-    mul-at-2
-    add-at
+    record-start-requires
     part-at-requires
     cast-check-record
     check-record-requires

@@ -4,7 +4,7 @@ use native.Mathlib.Omega.{arith}
 use borrow.Author.Needs.{needs}
 use Rattle.nearest.specs.declared.Seen.{Seen}
 use Rattle.nearest.specs.Search.{seenOver, onElement, firstOn, endVisit, passVisits, passOn}
-use Rattle.nearest.proofs.Visits.{bestOf-≤}
+use Rattle.walk_laws.proofs.Visits.{bestOf-≤}
 use Rattle.nearest.proofs.Seeing.{seenOver-++, seenOver-best, seenOver-visits}
 use Rattle.nearest.proofs.Passing.{first-length}
 use Rattle.nearest.proofs.passes.pass_on.Statement.{statement}

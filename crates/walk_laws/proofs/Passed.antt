@@ -14,9 +14,9 @@ use Rattle.model.specs.Series.{positionOn}
 use Rattle.model.specs.Accepted.{Accepted, AllAccepted}
 use Rattle.model.specs.Stations.{total, distanceSq, D}
 use Rattle.model.specs.Walk.{bestOf, firstBest, skipped, elementVisits, ownStations, secondFrom, secondVisits, isIn}
-use Rattle.nearest.proofs.Spaced.{skipped-farther}
-use Rattle.nearest.proofs.Own.{D-own, total-++}
-use Rattle.nearest.proofs.Visits.{Place, here, later, place, isIn-++, Rising, none, next, rising-from, rising-++, bestOf-≤, bestOf-++}
+use Rattle.walk_laws.proofs.Spaced.{skipped-farther}
+use Rattle.walk_laws.proofs.Own.{D-own, total-++}
+use Rattle.walk_laws.proofs.Visits.{Place, here, later, place, isIn-++, Rising, none, next, rising-from, rising-++, bestOf-≤, bestOf-++}
 
 -- A pass over the stations from lo on and below hi, where the best before it is b: its visits rise, and what it leaves out lies farther than its final best.
 pub record Passed (d : ℕ → ℕ) (lo hi b : ℕ) (vs : List ℕ) : Type 0 where

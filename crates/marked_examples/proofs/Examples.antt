@@ -3,16 +3,16 @@
 use mathlib.Core.List.{List, [], _∷_, map}
 use mathlib.Core.Path.{_≡_, refl, _∙_, ap, ap₂}
 use lib.IntN.{ℤ, pos, negℤ}
 use Rattle.model.specs.declared.Kind.the-variants.{Line}
 use Rattle.model.specs.declared.Element.{Element}
 use Rattle.model.specs.declared.Point.{Point}
 use Rattle.model.specs.declared.Outcome.the-variants.{Done}
 use Rattle.model.specs.Rounding.{ONE}
 use Rattle.model.specs.Acceptance.{checked, crestElements}
 use Rattle.model.specs.Stations.{D}
 use Rattle.model.specs.Answers.{paperOfLocated, located, locatedOn}
-use Rattle.model.specs.Examples.{K, point, firstThree, valuesBy, answered, examples, asked, due}
+use Rattle.marked_examples.specs.Examples.{K, point, firstThree, valuesBy, answered, examples, asked, due}
 use Rattle.model.proofs.Answers.{located-accepted}
 
 unfoldable pub elementsK : List Element
 elementsK = record { kind = Line; length = 10000; x = pos 0; y = pos 0; c = pos ONE; s = pos 0; radius = pos 0 } ∷ []

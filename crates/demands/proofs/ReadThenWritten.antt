@@ -10,11 +10,11 @@ use Rattle.model.specs.Refusals.{verdict}
 use Rattle.model.specs.Acceptance.{checked}
 use Rattle.model.specs.Writer.{blocksFrom, fileOf, roomAfter, written}
 use Rattle.model.proofs.Verdict.{more, all→done}
 use Rattle.crestfile.proofs.Bytes.{AllBytes}
 use Rattle.crestfile.proofs.WriterRules.{rulesButRoom, writer-done}
-use Rattle.crestfile.proofs.WrittenThenRead.{written-then-read}
+use Rattle.demands.proofs.WrittenThenRead.{written-then-read}
 use Rattle.crestfile.proofs.Blocks.{rewritten}
 use Rattle.crestfile.proofs.Crest.{Crest, accepted→crest, crest-count}
 
 crest-file : {file records : List ℕ} → AllBytes file → Crest file records → fileOf records ≡ file
 unfolding fileOf

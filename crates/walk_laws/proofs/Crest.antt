@@ -17,7 +17,7 @@ use Rattle.model.specs.Judged.{judged}
 use Rattle.model.specs.Answers.{pointRules, locatedIf, locatedAfter, locatedOn, located}
 use Rattle.model.proofs.Verdict.{refused-before}
 use Rattle.model.proofs.Answers.{located-accepted}
-use Rattle.nearest.proofs.Reasons.{Lacks, empty, other, lacks-++, lacks-forEach, lacks→not-given}
+use Rattle.walk_laws.proofs.Reasons.{Lacks, empty, other, lacks-++, lacks-forEach, lacks→not-given}
 
 -- ---- the crest's own refusals come first
 

@@ -16,8 +16,8 @@ use Rattle.model.specs.Stations.{total, D}
 use Rattle.model.specs.Judged.{judged, Least}
 use Rattle.model.specs.Walk.{firstVisits, bestOf, firstBest, secondVisits, visits, isIn, LeftOut}
 use Rattle.model.proofs.Judged.{judged-least}
-use Rattle.nearest.proofs.Visits.{isIn-++, Rising, rising-within, bestOf-++, bestOf-in-≤, ≤-bestOf, first-rises}
-use Rattle.nearest.proofs.Passed.{Passed, second-passed}
+use Rattle.walk_laws.proofs.Visits.{isIn-++, Rising, rising-within, bestOf-++, bestOf-in-≤, ≤-bestOf, first-rises}
+use Rattle.walk_laws.proofs.Passed.{Passed, second-passed}
 
 -- a is the least of the stations vs of least d
 pub record LeastIn (d : ℕ → ℕ) (vs : List ℕ) (a : ℕ) : Type 0 where

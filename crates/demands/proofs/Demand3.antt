@@ -22,12 +22,12 @@ use Rattle.model.specs.Judged.{judged, residualAt}
 use Rattle.model.specs.Walk.{firstVisits, bestOf, secondVisits, visits, isIn}
 use Rattle.model.specs.Answers.{locatedOn, located}
 use Rattle.model.proofs.Judged.{judged-least}
-use Rattle.nearest.proofs.Spaced as spaced
-use Rattle.nearest.proofs.Walked as walked
+use Rattle.walk_laws.proofs.Spaced as spaced
+use Rattle.walk_laws.proofs.Walked as walked
 use Rattle.alignment.proofs.AcceptCrest.{crest-accepted, crest-some}
-use Rattle.nearest.proofs.Crest as crest
-use Rattle.nearest.proofs.Outcomes.{Answered}
-use Rattle.nearest.proofs.Outcomes as outcomes
+use Rattle.walk_laws.proofs.Crest as crest
+use Rattle.walk_laws.proofs.Outcomes.{Answered}
+use Rattle.walk_laws.proofs.Outcomes as outcomes
 
 -- ---- an accepted alignment, by its elements, and any point
 

@@ -28,8 +28,8 @@ use Rattle.model.specs.Judged.{judged, residualAt, offsetAt}
 use Rattle.model.specs.Walk.{firstVisits, secondVisits, visits, visitCount}
 use Rattle.model.specs.Answers.{pointRules, locatedIf, locatedAfter, locatedOn, located}
 use Rattle.model.proofs.Verdict.{AllHold, none, more, done→all, all→done}
-use Rattle.nearest.proofs.Crest.{located-exactly}
-use Rattle.nearest.proofs.Reasons.{first-holds, rest-hold, Lacks, empty, other, given-exactly}
+use Rattle.walk_laws.proofs.Crest.{located-exactly}
+use Rattle.walk_laws.proofs.Reasons.{first-holds, rest-hold, Lacks, empty, other, given-exactly}
 
 -- ---- the table's conditions, each where none before it applies
 

@@ -8,21 +8,21 @@ use lib.ListN.{length, drop, length-append, length-drop, List·getD-append}
 use lib.Seq.{drop-append-le}
 use lib.IntN.{pos}
 use lib.Ieee.{Float, binary64, ofBits}
 use Rattle.model.specs.declared.Reading.{Reading}
 use Rattle.model.specs.declared.Run.{Run}
 use Rattle.model.specs.declared.Reading.the-variants.{PlanePoint}
 use Rattle.model.specs.declared.Outcome.the-variants.{Done}
 use Rattle.model.specs.Records.{byteAt, u32At}
 use Rattle.model.specs.Refusals.{refusal, verdict, orRefused}
 use Rattle.model.specs.Acceptance.{checked, crestRules, crestElements}
 use Rattle.model.specs.Answers.{locatedOn}
 use Rattle.model.specs.Readings.{numberRules, answerTo, fromLocated, valueOf, wholeOf}
 use Rattle.model.specs.Run.{Shown, fresh, isFull, fullRules, shownOf, counted, noted, notedIf}
 use Rattle.model.specs.Program.{ascii, decimal, line, firstWords, heading, readingLine, lastLine, readingAt, readingsFrom, readingsOf, printFrom, printed}
-use Rattle.model.specs.Examples.{K, point}
+use Rattle.marked_examples.specs.Examples.{K, point}
 use Rattle.model.proofs.Verdict.{verdict-after}
 use Rattle.model.proofs.Answers.{located-after}
-use Rattle.model.proofs.Examples.{elementsK, acceptedK, readK}
+use Rattle.marked_examples.proofs.Examples.{elementsK, acceptedK, readK}
 
 -- x and y of examples 1 and 4 as f64: (512, 300) and (−101, 0)
 unfoldable pub readingsK : List ℕ

@@ -6,26 +6,26 @@ use mathlib.Core.Path.{_≡_, refl, sym, _∙_, ap}
 use native.Mathlib.Omega.{arith}
 use lib.ListN.{length, getD, replicate}
 use lib.IntN.{ℤ, pos}
 use Rattle.model.specs.declared.Kind.the-variants.{Line}
 use Rattle.model.specs.declared.Element.{Element}
 use Rattle.model.specs.declared.Point.{Point}
 use Rattle.model.specs.declared.Refusal.{Refusal}
 use Rattle.model.specs.declared.Outcome.{Outcome}
 use Rattle.model.specs.declared.Outcome.the-variants.{Done, Refused}
 use Rattle.model.specs.declared.Located.{Located}
 use Rattle.model.specs.declared.Located.the-variants.{At, Refused as LocatedRefused}
 use Rattle.model.specs.declared.ReadingAnswer.the-variants.{Refused as AnswerRefused}
 use Rattle.model.specs.declared.Run.{Run}
 use Rattle.model.specs.Rounding.{ONE}
 use Rattle.model.specs.Refusals.{refusal, beforeStart}
 use Rattle.model.specs.Acceptance.{checked}
 use Rattle.model.specs.Writer.{written}
 use Rattle.model.specs.Stations.{total, D}
 use Rattle.model.specs.Judged.{judged}
 use Rattle.model.specs.Walk.{firstVisits, visitCount}
 use Rattle.model.specs.Answers.{located}
 use Rattle.model.specs.Run.{Shown, shownOf, answers, counted, acknowledged, acknowledgeCall}
-use Rattle.model.specs.Examples.{K, crest, oneRecord, point}
+use Rattle.marked_examples.specs.Examples.{K, crest, oneRecord, point}
 
 -- a line as K of 10 mm
 unfoldable pub short : List ℕ

@@ -1,0 +1,57 @@
+-- Demand 2: "All numbers are exactly document 01's; positions lie within the bound of the series sum; a written file reads back, and a crest has one file only."
+-- Its first words are the functions' promises: each is an equation with the definition of its number.
+use Prim.Native.Nat.{ℕ, _<_, _≤_}
+use mathlib.Core.Bool.{true, false}
+use mathlib.Core.List.{List}
+use mathlib.Core.Logic.{_≢_}
+use mathlib.Core.Path.{_≡_}
+use lib.ListN.{length, set}
+use Rattle.model.specs.declared.Element.{Element}
+use Rattle.model.specs.declared.Outcome.the-variants.{Done}
+use Rattle.model.specs.Records.{byteAt, put, recordBytes}
+use Rattle.model.specs.Bound.{Bounded}
+use Rattle.model.specs.Acceptance.{sumsAgree, checked}
+use Rattle.model.specs.Accepted.{Accepted}
+use Rattle.model.specs.Writer.{fileOf, writerOutcome, roomAfter, written}
+use Rattle.elements.proofs.Bound as bound
+use Rattle.crestfile.proofs.Bytes.{AllBytes}
+use Rattle.demands.proofs.WrittenThenRead as writing
+use Rattle.crestfile.proofs.WriterRules.{writer-done}
+use Rattle.demands.proofs.ReadThenWritten as reading
+use Rattle.demands.proofs.WrittenBytes as bytes
+use Rattle.demands.proofs.SingleByte as changed
+
+-- ---- "positions lie within the bound of the series sum"
+
+pub bounded : (e : Element) → Accepted e → (s : ℕ) → s ≤ e .length → Bounded e s
+bounded = bound.bounded
+
+-- ---- "a written file reads back"
+
+-- where the writer refuses nothing, what it leaves in the room starts with a file that is accepted and holds the records given
+pub written-reads-back : (records : List ℕ) (room : ℕ) → writerOutcome records room ≡ Done → (checked (fileOf records) ≡ Done) × (recordBytes (fileOf records) ≡ records)
+written-reads-back records room e = let w = writing.written-then-read records (writer-done records room .0 e .0) in (w .0, w .1)
+
+pub written-file : (records room : List ℕ) → writerOutcome records (length room) ≡ Done → written records room ≡ put room 0 (fileOf records)
+unfolding written roomAfter
+written-file records room e = rw e
+
+-- ---- "and a crest has one file only"
+
+-- two accepted files with the same records are the same bytes
+pub one-file : (file other : List ℕ) → AllBytes file → AllBytes other → checked file ≡ Done → checked other ≡ Done → recordBytes file ≡ recordBytes other → file ≡ other
+one-file = reading.one-file
+
+-- an accepted file is the file of its records, which the writer leaves in any room that is long enough
+pub file-of-its-records : (file : List ℕ) → AllBytes file → checked file ≡ Done → fileOf (recordBytes file) ≡ file
+file-of-its-records file bytes e = reading.read-then-written file bytes e .1
+
+pub written-again : (file room : List ℕ) → AllBytes file → checked file ≡ Done → length file ≤ length room → written (recordBytes file) room ≡ put room 0 file
+written-again = reading.written-again
+
+-- What the writer makes of bytes is bytes, and of one changed byte in a block A or B tells.
+pub file-bytes : (records : List ℕ) → AllBytes records → AllBytes (fileOf records)
+file-bytes = bytes.file-bytes
+
+pub single-byte : (block : List ℕ) (i v : ℕ) → AllBytes block → length block ≡ 512 → sumsAgree block ≡ true → i < 512 → v < 256 → v ≢ byteAt block i → sumsAgree (set block i v) ≡ false
+single-byte = changed.single-byte

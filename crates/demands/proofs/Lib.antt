@@ -1,0 +1,15 @@
+-- The run record under any history of calls.
+pub mod Events
+pub mod RunBytes
+pub mod Histories
+pub mod Lent
+pub mod WrongRuns
+-- The crest file: what is written reads back, what is read is written again, and a changed byte is seen.
+pub mod WrittenThenRead
+pub mod ReadThenWritten
+pub mod WrittenBytes
+pub mod SingleByte
+-- The three demands.
+pub mod Demand1
+pub mod Demand2
+pub mod Demand3

@@ -1,0 +1,4 @@
+-- The marked examples, the printed one among them, and the programs shut out by name.
+pub mod Examples
+pub mod Program
+pub mod WrongPrograms

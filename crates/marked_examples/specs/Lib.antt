@@ -1,0 +1,2 @@
+-- The table of the marked examples.
+pub mod Examples

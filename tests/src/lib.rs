@@ -35,6 +35,7 @@ pub mod raw {
         pub fn probe_position(crest: *const u8, crest_len: usize, station: u32, out: *mut u8, out_len: usize) -> u32;
         pub fn probe_locate(crest: *const u8, crest_len: usize, x: i32, y: i32, out: *mut u8, out_len: usize) -> u32;
         pub fn probe_inverse(crest: *const u8, crest_len: usize, station: u32, offset: i32, out: *mut u8, out_len: usize) -> u32;
+        pub fn probe_record(crest: *const u8, crest_len: usize, record: u32, out: *mut u8, out_len: usize) -> u32;
     }
 }
 
@@ -94,6 +95,10 @@ pub fn locate(crest: &[u8], x: i32, y: i32, out: &mut [u8]) -> u32 {
 
 pub fn inverse(crest: &[u8], station: u32, offset: i32, out: &mut [u8]) -> u32 {
     unsafe { raw::probe_inverse(lent(crest), crest.len(), station, offset, lent_mut(out), out.len()) }
+}
+
+pub fn record(crest: &[u8], record: u32, out: &mut [u8]) -> u32 {
+    unsafe { raw::probe_record(lent(crest), crest.len(), record, lent_mut(out), out.len()) }
 }
 
 /// Room to lend, between two stretches of known bytes, at any alignment.

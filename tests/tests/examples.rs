@@ -99,6 +99,8 @@ fn null_with_length_0() {
         compare.value(|| "locate".into(), raw::probe_locate(null(), 0, 0, 0, out.as_mut_ptr(), 16), 1);
         compare.value(|| "inverse".into(), raw::probe_inverse(null(), 0, 0, 0, null_mut(), 0), 18);
         compare.value(|| "inverse".into(), raw::probe_inverse(null(), 0, 0, 0, out.as_mut_ptr(), 8), 1);
+        compare.value(|| "record".into(), raw::probe_record(null(), 0, 0, null_mut(), 0), 18);
+        compare.value(|| "record".into(), raw::probe_record(null(), 0, 0, room.as_mut_ptr(), 32), 1);
     }
     compare.holds(|| "room unchanged".into(), room == [7; 512] && out == [7; 16]);
     // Four readings were counted, each refused with 1.

@@ -1,9 +1,10 @@
-//! probe_position, probe_locate and probe_inverse: position and direction at a station, the walk with its count, the inverse.
+//! probe_position, probe_locate, probe_inverse and probe_record: position and direction at a station, the walk with its count,
+//! the inverse, and a record's bytes.
 
 use crest_tests::compare::{hex, Compare};
 use crest_tests::random::Random;
 use crest_tests::rules::{self, Crest, Refusal};
-use crest_tests::{inverse, locate, position};
+use crest_tests::{inverse, locate, position, record};
 
 /// Calls of one probe on accepted crests and damaged files, in rooms of any length.
 fn probe<Q: Copy + std::fmt::Debug>(
@@ -97,5 +98,23 @@ fn probe_inverse() {
         },
         |file, (station, offset), room| inverse(file, station, offset, room),
         |told, (station, offset), room| rules::inverse_call(told, station, offset, room),
+    );
+}
+
+#[test]
+fn probe_record() {
+    probe(
+        "probe_record",
+        20,
+        32,
+        &[0, 1, 2, 3, 4, 5, 6, 7, 8, 9, 15, 18],
+        |random, crest| {
+            if random.one_in(20) {
+                return random.bits() as u32;
+            }
+            random.below(crest.elements.len() + 1) as u32
+        },
+        record,
+        rules::record_call,
     );
 }

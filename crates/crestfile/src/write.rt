@@ -23,7 +23,7 @@ pub fn count_fits(len: usize) -> bool
 }
 
 // Bytes copied over the room's from `at` on.
-fn copy_at(room: &mut [u8], at: usize, bytes: &[u8])
+pub fn copy_at(room: &mut [u8], at: usize, bytes: &[u8])
     requires { ⌜ at + length (now bytes) ≤ length (now room) ⌝ }
     ensures { λ _. ⌜ now (room .exit) ≡ put (now (room .entry)) at (now (bytes .entry)) ⌝ }
 {

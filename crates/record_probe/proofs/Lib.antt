@@ -1,0 +1,2 @@
+-- What the call comes to, case by case.
+mod Cases

@@ -35,6 +35,10 @@ impl Compare {
         self.calls
     }
 
+    pub fn differences(&self) -> u64 {
+        self.differences
+    }
+
     /// The generator of this test: CREST_SEED makes another run.
     pub fn random(&self) -> Random {
         let seed = env::var("CREST_SEED").map_or(1, |seed| seed.parse().expect("CREST_SEED is a number"));

@@ -1,31 +1,68 @@
 //! What the functions are called with: accepted crests of 1 to 60 elements, damaged files, and numbers of all sorts,
-//! from a small deterministic generator.
+//! from a small deterministic generator or from bytes that are given.
 
-use crate::rules::{self, put_i32, put_u16, Crest, Element, ARC, ENTRY, EXIT, LINE, ONE};
+use crate::rules::{self, put_i32, put_u16, Crest, Element, Reading, ARC, ENTRY, EXIT, LINE, ONE};
 
-/// splitmix64.
-pub struct Random(u64);
+/// Choices: the given bytes in their order, and splitmix64 where there are none or no more.
+pub struct Random {
+    state: u64,
+    given: Vec<u8>,
+    at: usize,
+}
 
 impl Random {
     pub fn new(seed: u64) -> Random {
-        Random(seed)
+        Random { state: seed, given: Vec::new(), at: 0 }
     }
 
-    pub fn bits(&mut self) -> u64 {
-        self.0 = self.0.wrapping_add(0x9e37_79b9_7f4a_7c15);
-        let mut z = self.0;
+    /// Each choice is the next 1, 2, 4 or 8 bytes, little-endian, as few as its limit needs; after the last of them, those
+    /// of seed 0.
+    pub fn given(bytes: &[u8]) -> Random {
+        Random { state: 0, given: bytes.to_vec(), at: 0 }
+    }
+
+    /// How many given bytes are left.
+    pub fn left(&self) -> usize {
+        self.given.len() - self.at
+    }
+
+    /// The next given bytes as they are: so many, or what is left.
+    pub fn take(&mut self, len: usize) -> Vec<u8> {
+        let start = self.at;
+        self.at = self.given.len().min(start + len);
+        self.given[start..self.at].to_vec()
+    }
+
+    fn choice(&mut self, len: usize) -> u64 {
+        if self.left() > 0 {
+            let end = self.given.len().min(self.at + len);
+            let number = self.given[self.at..end].iter().rev().fold(0, |sum, &byte| (sum << 8) | u64::from(byte));
+            self.at = end;
+            return number;
+        }
+        self.state = self.state.wrapping_add(0x9e37_79b9_7f4a_7c15);
+        let mut z = self.state;
         z = (z ^ z >> 30).wrapping_mul(0xbf58_476d_1ce4_e5b9);
         z = (z ^ z >> 27).wrapping_mul(0x94d0_49bb_1331_11eb);
         z ^ z >> 31
     }
 
+    pub fn bits(&mut self) -> u64 {
+        self.choice(8)
+    }
+
+    fn under(&mut self, limit: i128) -> i128 {
+        let len = [1, 2, 4].into_iter().find(|len| limit <= 1 << (8 * len)).unwrap_or(8);
+        i128::from(self.choice(len)) % limit
+    }
+
     /// From 0 up to, not with, the limit.
     pub fn below(&mut self, limit: usize) -> usize {
-        (self.bits() % limit as u64) as usize
+        self.under(limit as i128) as usize
     }
 
     pub fn between(&mut self, low: i128, high: i128) -> i128 {
-        low + i128::from(self.bits()) % (high - low + 1)
+        low + self.under(high - low + 1)
     }
 
     pub fn one_in(&mut self, n: usize) -> bool {
@@ -41,7 +78,7 @@ impl Random {
     }
 
     pub fn bytes(&mut self, len: usize) -> Vec<u8> {
-        (0..len).map(|_| self.bits() as u8).collect()
+        (0..len).map(|_| self.choice(1) as u8).collect()
     }
 
     /// A number around one of these, or anywhere in the range.
@@ -389,6 +426,97 @@ impl Random {
         }
     }
 
+    pub fn plane_point(&mut self, crest: &Crest) -> Reading {
+        let (x, y) = self.point_near(crest);
+        if self.one_in(6) {
+            let marks = [-200_000_000, 0, 200_000_000, x, y];
+            let x = self.f64_near(&marks, x - 500, x + 500);
+            let y = self.f64_near(&marks, y - 500, y + 500);
+            return Reading::PlanePoint(x, y);
+        }
+        Reading::PlanePoint(x as f64, y as f64)
+    }
+
+    pub fn line_place(&mut self, crest: &Crest) -> Reading {
+        let station = self.station_on(crest);
+        let station = self.f64_near(&[0, crest.total, station], 0, crest.total);
+        let offset = self.f64_near(&[-20_000_000, 0, 20_000_000], -20_000_000, 20_000_000);
+        if self.one_in(6) {
+            return Reading::LinePlace(station, self.odd_multiple(20_000_000) as f64);
+        }
+        Reading::LinePlace(station, offset)
+    }
+
+    /// A station as a probe is given it: on the crest, at its end, or anything.
+    pub fn station(&mut self, crest: &Crest) -> u32 {
+        match self.below(10) {
+            0 => self.bits() as u32,
+            1 => (crest.total + self.between(-1, 1)) as u32,
+            _ => self.station_on(crest) as u32,
+        }
+    }
+
+    pub fn offset(&mut self) -> i32 {
+        if self.one_in(10) {
+            self.bits() as i32
+        } else if self.one_in(6) {
+            self.odd_multiple(20_000_000) as i32
+        } else {
+            self.around(&[-20_000_000, 0, 20_000_000], -20_000_000, 20_000_000) as i32
+        }
+    }
+
+    /// A point as a probe is given it.
+    pub fn point(&mut self, crest: &Crest) -> (i32, i32) {
+        if self.one_in(20) {
+            return (self.bits() as i32, self.bits() as i32);
+        }
+        let (x, y) = self.point_near(crest);
+        (x as i32, y as i32)
+    }
+
+    fn coordinate(&mut self) -> i32 {
+        match self.below(12) {
+            0 => self.bits() as i32,
+            1 => self.of(&[i32::MIN, i32::MAX, 0, 1, -1]),
+            2 | 3 => (self.sign() * (200_000_000 + self.between(-1, 1))) as i32,
+            4 | 5 => self.between(-300, 300) as i32,
+            _ => self.between(-200_000_000, 200_000_000) as i32,
+        }
+    }
+
+    /// Own point and target of a stake.
+    pub fn own_and_target(&mut self) -> ((i32, i32), (i32, i32)) {
+        let own = (self.coordinate(), self.coordinate());
+        let mut target = (self.coordinate(), self.coordinate());
+        if self.one_in(5) {
+            // The move is often an exact half.
+            let by = self.odd_multiple(100_000_000) as i32;
+            let by = if self.one_in(2) { (by, 0) } else { (0, by) };
+            target = (own.0.saturating_add(by.0), own.1.saturating_add(by.1));
+        }
+        (own, target)
+    }
+
+    pub fn heading(&mut self) -> (i32, i32) {
+        let (c, s) = self.unit();
+        let (c, s) = match self.below(8) {
+            0 => (c + self.between(-3, 3), s + self.between(-3, 3)),
+            1 => self.of(&[
+                (i32::MIN.into(), i32::MIN.into()),
+                (i32::MIN.into(), 0),
+                (0, 0),
+                (ONE, 46_341),
+                (ONE + 1, 0),
+                (ONE - 2, 0),
+                (i32::MAX.into(), i32::MAX.into()),
+            ]),
+            2 => ((self.bits() as i32).into(), (self.bits() as i32).into()),
+            _ => (c, s),
+        };
+        (c as i32, s as i32)
+    }
+
     /// A run's bytes: fresh, full or nearly, or anything.
     pub fn run(&mut self) -> Vec<u8> {
         let mut run = if self.one_in(3) { vec![0; 24] } else { self.bytes(24) };
@@ -442,7 +570,7 @@ pub fn record_of(element: &Element) -> [u8; 32] {
 }
 
 /// A block's sums made right.
-fn repair(block: &mut [u8]) {
+pub fn repair(block: &mut [u8]) {
     let (a, b) = rules::sums(block);
     put_u16(block, 508, a);
     put_u16(block, 510, b);

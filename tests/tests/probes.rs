@@ -47,17 +47,9 @@ fn probe<Q: Copy + std::fmt::Debug>(
     compare.done();
 }
 
-fn station(random: &mut Random, crest: &Crest) -> u32 {
-    match random.below(10) {
-        0 => random.bits() as u32,
-        1 => (crest.total + random.between(-1, 1)) as u32,
-        _ => random.station_on(crest) as u32,
-    }
-}
-
 #[test]
 fn probe_position() {
-    probe("probe_position", 80, 16, &[0, 1, 2, 3, 4, 5, 6, 7, 8, 9, 15, 18], station, position, rules::position_call);
+    probe("probe_position", 80, 16, &[0, 1, 2, 3, 4, 5, 6, 7, 8, 9, 15, 18], Random::station, position, rules::position_call);
 }
 
 #[test]
@@ -67,13 +59,7 @@ fn probe_locate() {
         60,
         16,
         &[0, 1, 2, 3, 4, 5, 6, 7, 8, 9, 11, 12, 13, 14, 18],
-        |random, crest| {
-            if random.one_in(20) {
-                return (random.bits() as i32, random.bits() as i32);
-            }
-            let (x, y) = random.point_near(crest);
-            (x as i32, y as i32)
-        },
+        Random::point,
         |file, (x, y), room| locate(file, x, y, room),
         |told, (x, y), room| rules::locate_call(told, x, y, room),
     );
@@ -87,14 +73,8 @@ fn probe_inverse() {
         8,
         &[0, 1, 2, 3, 4, 5, 6, 7, 8, 9, 11, 15, 18],
         |random, crest| {
-            let offset = if random.one_in(10) {
-                random.bits() as i32
-            } else if random.one_in(6) {
-                random.odd_multiple(20_000_000) as i32
-            } else {
-                random.around(&[-20_000_000, 0, 20_000_000], -20_000_000, 20_000_000) as i32
-            };
-            (station(random, crest), offset)
+            let offset = random.offset();
+            (random.station(crest), offset)
         },
         |file, (station, offset), room| inverse(file, station, offset, room),
         |told, (station, offset), room| rules::inverse_call(told, station, offset, room),

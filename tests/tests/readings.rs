@@ -5,27 +5,6 @@ use crest_tests::random::Random;
 use crest_tests::rules::{self, Crest, Reading};
 use crest_tests::{acknowledge, reading};
 
-fn plane_point(random: &mut Random, crest: &Crest) -> Reading {
-    let (x, y) = random.point_near(crest);
-    if random.one_in(6) {
-        let marks = [-200_000_000, 0, 200_000_000, x, y];
-        let x = random.f64_near(&marks, x - 500, x + 500);
-        let y = random.f64_near(&marks, y - 500, y + 500);
-        return Reading::PlanePoint(x, y);
-    }
-    Reading::PlanePoint(x as f64, y as f64)
-}
-
-fn line_place(random: &mut Random, crest: &Crest) -> Reading {
-    let station = random.station_on(crest);
-    let station = random.f64_near(&[0, crest.total, station], 0, crest.total);
-    let offset = random.f64_near(&[-20_000_000, 0, 20_000_000], -20_000_000, 20_000_000);
-    if random.one_in(6) {
-        return Reading::LinePlace(station, random.odd_multiple(20_000_000) as f64);
-    }
-    Reading::LinePlace(station, offset)
-}
-
 /// Readings of one sort on runs of any state and bytes of any number.
 fn readings(name: &'static str, thousandths: u64, make: fn(&mut Random, &Crest) -> Reading, given: &[usize]) {
     let mut compare = Compare::share(name, thousandths);
@@ -81,12 +60,12 @@ fn readings(name: &'static str, thousandths: u64, make: fn(&mut Random, &Crest) 
 
 #[test]
 fn crest_plane_reading() {
-    readings("crest_plane_reading", 180, plane_point, &[0, 1, 2, 3, 4, 5, 6, 7, 8, 9, 10, 11, 12, 13, 14, 16, 18]);
+    readings("crest_plane_reading", 180, Random::plane_point, &[0, 1, 2, 3, 4, 5, 6, 7, 8, 9, 10, 11, 12, 13, 14, 16, 18]);
 }
 
 #[test]
 fn crest_line_reading() {
-    readings("crest_line_reading", 130, line_place, &[0, 1, 2, 3, 4, 5, 6, 7, 8, 9, 10, 11, 15, 16, 18]);
+    readings("crest_line_reading", 130, Random::line_place, &[0, 1, 2, 3, 4, 5, 6, 7, 8, 9, 10, 11, 15, 16, 18]);
 }
 
 #[test]
@@ -132,7 +111,7 @@ fn any_order() {
                 );
                 first = None;
             } else {
-                let asked = if random.one_in(2) { plane_point(&mut random, &crest) } else { line_place(&mut random, &crest) };
+                let asked = if random.one_in(2) { random.plane_point(&crest) } else { random.line_place(&crest) };
                 let value = compare.room(
                     || format!("{asked:?} on file {}", hex(file)),
                     &before,

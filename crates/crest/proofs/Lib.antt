@@ -1,5 +1,2 @@
 -- The laws that belong to no one function.
-pub mod Codes
 pub mod Moves
-pub mod Widths
-pub mod Readings

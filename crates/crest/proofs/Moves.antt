@@ -14,8 +14,8 @@ use Rattle.model.specs.Refusals.{refusal, orRefused, verdict}
 use Rattle.model.specs.Answers.{code, paperOfOutcome, paperOfMove, moveRules, moveOf, moveIf, stakeOut}
 use Rattle.model.specs.Run.{moveBytes, stakeOutCall}
 use Rattle.stations.proofs.StakeAnswers.{move-small}
-use Rattle.crest.specs.Codes.{Small, Movable}
-use Rattle.crest.proofs.Codes.{SmallOrder, none-small, rule-small}
+use Rattle.codes.specs.Codes.{Small, Movable}
+use Rattle.codes.proofs.Codes.{SmallOrder, none-small, rule-small}
 
 module _ (own target : Point) (c s : ℤ) where
   pub stake-18 : (room : List ℕ) → (length room ≡ 8 → ⊥) → stakeOutCall own target c s room ≡ (18, room)

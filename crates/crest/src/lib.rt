@@ -1,48 +1,18 @@
 // The calls of the logger's C firmware: numbers and lent bytes.
-use model::Move;
-use model::Outcome;
-use model::Point;
+use codes::answer_move;
+use codes::count_reading;
+use codes::outcome_code;
+use codes::point;
 use model::Reading;
-use model::ReadingAnswer;
-use model::Refusal;
 use readings::run::acknowledge;
-use readings::run::count;
 use readings::run::is_full;
-use readings::run::latest_of;
 use readings::run::put_run;
 use readings::run::run_at;
 ghost use mathlib.Core.Path.{_≡_};
-ghost use mathlib.Core.Bool.{false};
-ghost use mathlib.Core.List.{[]};
-ghost use lib.ListN.{length};
-ghost use mir.Syntax.{w32};
-ghost use mir.Val.{SFits};
-ghost use Rattle.model.specs.declared.Move.the-variants.{By};
 ghost use Rattle.model.specs.declared.Reading.the-variants.{PlanePoint, LinePlace};
-ghost use Rattle.model.specs.Answers.{code, refusedWith, paperOfOutcome, paperOfMove};
-ghost use Rattle.model.specs.Readings.{paperOfReading};
-ghost use Rattle.model.specs.Run.{isFull, counted, shownOf, runAt, runBytes, readingCall, acknowledgeCall, checkCall, writeCall, moveBytes, stakeOutCall};
-ghost use Rattle.readings.specs.Stored.{Storable};
-ghost use Rattle.crest.specs.Codes.{Small, Movable};
+ghost use Rattle.model.specs.Run.{readingCall, acknowledgeCall, checkCall, writeCall, stakeOutCall};
 
-// A refusal's number plus 256 times its place.
-pub fn code_of(why: Refusal) -> u32
-    requires { ⌜ Small (refusedWith why []) ⌝ }
-    ensures { λ r. ⌜ r ≡ code (refusedWith why []) ⌝ }
-{
-    why.number + 256 * why.place
-}
-
-// 0 where nothing is refused.
-fn outcome_code(outcome: Outcome) -> u32
-    requires { ⌜ Small (paperOfOutcome outcome) ⌝ }
-    ensures { λ r. ⌜ r ≡ code (paperOfOutcome outcome) ⌝ }
-{
-    match outcome {
-        Outcome::Done => 0,
-        Outcome::Refused(why) => code_of(why),
-    }
-}
+pub mod entries;
 
 // The check of a file.
 #[no_mangle]
@@ -60,42 +30,6 @@ pub extern "C" fn crest_write(records: &[u8], room: &mut [u8]) -> u32
 {
     let written = alignment::write::write(records, room);
     outcome_code(written)
-}
-
-pub fn point(x: i32, y: i32) -> Point
-    ensures { λ r. ⌜ r ≡ record { x = x; y = y } ⌝ }
-{
-    Point {
-        x: x as i64,
-        y: y as i64,
-    }
-}
-
-// Forward at byte 0 and left at byte 4.
-fn put_move(room: &mut [u8], forward: i64, left: i64)
-    requires { ⌜ length (now room) ≡ 8 ⌝ }
-    requires { ⌜ SFits w32 forward ⌝ }
-    requires { ⌜ SFits w32 left ⌝ }
-    ensures { λ _. ⌜ now (room .exit) ≡ moveBytes (By forward left) (now (room .entry)) ⌝ }
-{
-    fields::put_i32(room, 0, forward as i32);
-    fields::put_i32(room, 4, left as i32);
-}
-
-// A move into its 8 bytes; a refusal leaves them as they came.
-fn answer_move(answer: Move, room: &mut [u8]) -> u32
-    requires { ⌜ length (now room) ≡ 8 ⌝ }
-    requires { ⌜ Movable answer ⌝ }
-    ensures { λ r. ⌜ r ≡ code (paperOfMove answer) ⌝ }
-    ensures { λ _. ⌜ now (room .exit) ≡ moveBytes answer (now (room .entry)) ⌝ }
-{
-    match answer {
-        Move::By { forward, left } => {
-            put_move(room, forward, left);
-            0
-        }
-        Move::Refused(why) => code_of(why),
-    }
 }
 
 // The move from a stake's own point to its target under a heading: 18 first, for room that is not 8 bytes.
@@ -136,38 +70,6 @@ pub extern "C" fn crest_acknowledge(run: &mut [u8]) -> u32
     let cleared = acknowledge(state);
     put_run(run, cleared);
     0
-}
-
-// 0 for an answer of either sort.
-fn answer_code(answer: ReadingAnswer) -> u32
-    requires { ⌜ Small (paperOfReading answer) ⌝ }
-    ensures { λ r. ⌜ r ≡ code (paperOfReading answer) ⌝ }
-{
-    match answer {
-        ReadingAnswer::PlanePoint {
-            station: _,
-            offset: _,
-            residual: _,
-            visits: _,
-        } => 0,
-        ReadingAnswer::LinePlace { x: _, y: _ } => 0,
-        ReadingAnswer::Refused(why) => code_of(why),
-    }
-}
-
-// A reading on a run that is not full, by what it came to.
-fn count_reading(answer: ReadingAnswer, run: &mut [u8]) -> u32
-    requires { ⌜ length (now run) ≡ 24 ⌝ }
-    requires { ⌜ isFull (runAt (now run)) ≡ false ⌝ }
-    requires { ⌜ Storable (shownOf answer) ⌝ }
-    requires { ⌜ Small (paperOfReading answer) ⌝ }
-    ensures { λ r. ⌜ r ≡ code (paperOfReading answer) ⌝ }
-    ensures { λ _. ⌜ now (run .exit) ≡ runBytes (counted (shownOf answer) (runAt (now (run .entry)))) (now (run .entry)) ⌝ }
-{
-    let state = run_at(run);
-    let grown = count(state, latest_of(answer));
-    put_run(run, grown);
-    answer_code(answer)
 }
 
 // A reading on a run. Where the bytes are no run, 18, or the run is full, 16, the crest is not looked at.

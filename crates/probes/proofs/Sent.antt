@@ -24,9 +24,9 @@ use Rattle.stations.proofs.StationTotal.{total-within}
 use Rattle.walk_laws.proofs.Outcomes.{answered, count-is}
 use Rattle.nearest.proofs.Fitting.{Fits, answer-fits}
 use Rattle.answers.proofs.Storable.{most-elements}
-use Rattle.crest.specs.Codes.{Small}
-use Rattle.crest.proofs.Codes.{SmallOrder, one-small, then-small, crest-small}
-use Rattle.crest.proofs.Readings.{point-small, line-small}
+use Rattle.codes.specs.Codes.{Small}
+use Rattle.codes.proofs.Codes.{SmallOrder, one-small, then-small, crest-small}
+use Rattle.codes.proofs.Readings.{point-small, line-small}
 use Rattle.probes.specs.declared.Reply.{Reply}
 use Rattle.probes.specs.Replies.{fromPlaced, fromLocated, fromInverse, Sendable}
 use Rattle.probes.proofs.Visited.{visits-within}

@@ -1,8 +1,8 @@
 -- The three answers of the calls in one form: four numbers of 32 bits, two, or a refusal.
-use Prim.Native.Nat.{ℕ, _+_}
+use Prim.Native.Nat.{ℕ}
 use mathlib.Core.List.{List, []}
 use mathlib.Core.Path.{_≡_}
-use lib.IntN.{ℤ, pos}
+use lib.IntN.{pos}
 use mir.Syntax.{w32}
 use mir.Val.{SFits}
 use Rattle.model.specs.declared.Placed.{Placed}
@@ -13,8 +13,7 @@ use Rattle.model.specs.declared.Inverse.{Inverse}
 use Rattle.model.specs.declared.Inverse.the-variants.{At as InverseAt, Refused as InverseRefused}
 use Rattle.model.specs.Records.{put}
 use Rattle.model.specs.Answers.{code, refusedWith}
-use Rattle.model.specs.Run.{i32Bytes}
-use Rattle.crest.specs.Codes.{Small}
+use Rattle.codes.specs.Codes.{Small, putTwo}
 use Rattle.probes.specs.declared.Reply.{Reply}
 use Rattle.probes.specs.declared.Reply.the-variants.{Four, Two, Refused}
 
@@ -35,10 +34,6 @@ unfolding code
 replyCode (Four a b c d) = 0
 replyCode (Two a b) = 0
 replyCode (Refused why) = code (refusedWith why [])
-
--- two fields of four bytes, one after the other
-abbrev pub putTwo : List ℕ → ℕ → ℤ → ℤ → List ℕ
-putTwo l at a b = put (put l at (i32Bytes a)) (at + 4) (i32Bytes b)
 
 unfoldable pub replyBytes : Reply → List ℕ → List ℕ
 unfolding put

@@ -1,17 +1,18 @@
 // Calls for tests and tools: a crest's bytes, a question in numbers, and room for the answer.
-use crest::code_of;
-use crest::point;
+use codes::code_of;
+use codes::point;
+use codes::put_two;
+use crest::entries::inverse;
+use crest::entries::locate;
+use crest::entries::position;
 use model::Inverse;
 use model::Located;
 use model::Placed;
 use model::Refusal;
 ghost use mathlib.Core.Path.{_≡_};
-ghost use Prim.Native.Nat.{_+_, _≤_};
 ghost use lib.ListN.{length};
 ghost use lib.IntN.{pos};
-ghost use mir.Syntax.{w32};
-ghost use mir.Val.{SFits};
-ghost use Rattle.probes.specs.Replies.{fromPlaced, fromLocated, fromInverse, replyCode, putTwo, replyBytes, Sendable};
+ghost use Rattle.probes.specs.Replies.{fromPlaced, fromLocated, fromInverse, replyCode, replyBytes, Sendable};
 ghost use Rattle.probes.specs.Calls.{positionCall, locateCall, inverseCall};
 
 // What is sent back: numbers of 32 bits for the room, or a refusal.
@@ -64,17 +65,6 @@ fn from_inverse(answer: Inverse) -> Reply
     }
 }
 
-// Two fields of four bytes, one after the other.
-fn put_two(room: &mut [u8], at: usize, a: i64, b: i64)
-    requires { ⌜ at + 8 ≤ length (now room) ⌝ }
-    requires { ⌜ SFits w32 a ⌝ }
-    requires { ⌜ SFits w32 b ⌝ }
-    ensures { λ _. ⌜ now (room .exit) ≡ putTwo (now (room .entry)) at a b ⌝ }
-{
-    fields::put_i32(room, at, a as i32);
-    fields::put_i32(room, at + 4, b as i32);
-}
-
 // A reply into its room; a refusal leaves the room as it came.
 fn send(reply: Reply, room: &mut [u8]) -> u32
     requires { ⌜ Sendable (length (now room)) reply ⌝ }
@@ -103,10 +93,7 @@ pub extern "C" fn probe_position(file: &[u8], station: u32, out: &mut [u8]) -> u
     if out.len() != 16 {
         return 18;
     }
-    send(
-        from_placed(stations::ask::placed(file, station as i64)),
-        out,
-    )
+    send(from_placed(position(file, station as i64)), out)
 }
 
 // Station, offset and residual of a point, and how many stations were visited, each of 32 bits: 18 first, for room that is not 16 bytes.
@@ -117,7 +104,7 @@ pub extern "C" fn probe_locate(file: &[u8], x: i32, y: i32, out: &mut [u8]) -> u
     if out.len() != 16 {
         return 18;
     }
-    send(from_located(nearest::located(file, point(x, y))), out)
+    send(from_located(locate(file, point(x, y))), out)
 }
 
 // X, Y at a station and an offset, each i32: 18 first, for room that is not 8 bytes.
@@ -129,7 +116,7 @@ pub extern "C" fn probe_inverse(file: &[u8], station: u32, offset: i32, out: &mu
         return 18;
     }
     send(
-        from_inverse(stations::ask::inverse_of(file, station as i64, offset as i64)),
+        from_inverse(inverse(file, station as i64, offset as i64)),
         out,
     )
 }

@@ -13,8 +13,8 @@ use Rattle.model.specs.Records.{recordBytes, countOf}
 use Rattle.model.specs.Refusals.{rule₀, orRefused, refusal, askedOutOfRange}
 use Rattle.model.specs.Acceptance.{crestRules}
 use Rattle.model.specs.Answers.{code, refusedWith, paperOfOutcome, readerOutcome, readerPart}
-use Rattle.crest.specs.Codes.{Small}
-use Rattle.crest.proofs.Codes.{one-small, then-small, crest-small}
+use Rattle.codes.specs.Codes.{Small}
+use Rattle.codes.proofs.Codes.{one-small, then-small, crest-small}
 use Rattle.record_probe.specs.Calls.{recordRoom, recordCall}
 
 module _ (file : List ℕ) (r : ℕ) where

@@ -1,7 +1,7 @@
 // A record of a crest file for tools: its bytes, copied.
 use alignment::part::record_outcome;
 use alignment::part::record_part;
-use crest::code_of;
+use codes::code_of;
 use crestfile::write::copy_at;
 use model::Outcome;
 ghost use mathlib.Core.Path.{_≡_};

@@ -5,8 +5,8 @@ use borrow.Author.Needs.{needs}
 use Rattle.model.specs.declared.Outcome.{Outcome}
 use Rattle.model.specs.Answers.{code, paperOfOutcome}
 use Rattle.model.specs.Run.{checkCall}
-use Rattle.crest.specs.Codes.{Small}
-use Rattle.crest.proofs.Codes.{check-small}
+use Rattle.codes.specs.Codes.{Small}
+use Rattle.codes.proofs.Codes.{check-small}
 use Rattle.crest.proofs.crest_check.Statement.{statement}
 use Rattle.crest.proofs.crest_check.Tie as tie
 

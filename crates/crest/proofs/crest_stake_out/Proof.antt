@@ -8,8 +8,8 @@ use Rattle.model.specs.declared.Point.{Point}
 use Rattle.model.specs.declared.Move.{Move}
 use Rattle.model.specs.Answers.{code, paperOfMove, stakeOut}
 use Rattle.model.specs.Run.{moveBytes}
-use Rattle.crest.specs.Codes.{Movable}
-use Rattle.crest.proofs.Widths.{wide-fits, wide, as-came}
+use Rattle.codes.specs.Codes.{Movable}
+use Rattle.codes.proofs.Widths.{wide-fits, wide, as-came}
 use Rattle.crest.proofs.Moves.{stake-18, stake-answered, stake-movable}
 use borrow.Author.Needs.{needs}
 use Rattle.crest.proofs.crest_stake_out.Statement.{statement}

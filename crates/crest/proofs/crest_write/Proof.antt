@@ -8,8 +8,8 @@ use borrow.Author.Needs.{needs}
 use Rattle.model.specs.declared.Outcome.{Outcome}
 use Rattle.model.specs.Answers.{code, paperOfOutcome}
 use Rattle.model.specs.Run.{writeCall}
-use Rattle.crest.specs.Codes.{Small}
-use Rattle.crest.proofs.Codes.{writer-small}
+use Rattle.codes.specs.Codes.{Small}
+use Rattle.codes.proofs.Codes.{writer-small}
 use Rattle.crest.proofs.crest_write.Statement.{statement}
 use Rattle.crest.proofs.crest_write.Tie as tie
 

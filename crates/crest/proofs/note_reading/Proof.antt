@@ -10,8 +10,8 @@ use Rattle.model.specs.Run.{isFull, counted, shownOf, runAt, runBytes}
 use Rattle.readings.proofs.Narrow.{stored}
 use Rattle.readings.proofs.Calls.{reading-18, reading-16, reading-counted}
 use Rattle.answers.proofs.Storable.{answer-storable}
-use Rattle.crest.specs.Codes.{Small}
-use Rattle.crest.proofs.Readings.{answer-small}
+use Rattle.codes.specs.Codes.{Small}
+use Rattle.codes.proofs.Readings.{answer-small}
 use borrow.Author.Needs.{needs}
 use Rattle.crest.proofs.note_reading.Statement.{statement}
 use Rattle.crest.proofs.note_reading.Tie as tie

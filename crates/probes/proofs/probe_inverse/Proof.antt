@@ -7,7 +7,7 @@ use mir.Syntax.{w64}
 use mir.ValLaws.{toZ-pos}
 use denote.Ref.{now}
 use Rattle.model.specs.Answers.{inverse}
-use Rattle.crest.proofs.Widths.{wide-fits, wide}
+use Rattle.codes.proofs.Widths.{wide-fits, wide}
 use Rattle.probes.specs.Replies.{fromInverse}
 use Rattle.probes.proofs.Rooms.{inverse-18, inverse-written, sent-as}
 use Rattle.probes.proofs.Sent.{same-sendable, inverse-sendable}

@@ -6,7 +6,7 @@ use denote.Ref.{now}
 use Rattle.model.specs.declared.Point.{Point}
 use Rattle.model.specs.declared.Located.{Located}
 use Rattle.model.specs.Answers.{located}
-use Rattle.crest.proofs.Widths.{as-came}
+use Rattle.codes.proofs.Widths.{as-came}
 use Rattle.probes.specs.Replies.{fromLocated, Sendable}
 use Rattle.probes.proofs.Rooms.{locate-18, locate-sent, sent-as}
 use Rattle.probes.proofs.Sent.{same-sendable, located-sendable}

@@ -12,7 +12,8 @@ use mir.ValLaws.{toZ-ofZ}
 use denote.Ref.{now}
 use Rattle.readings.proofs.Narrow.{narrow-fits}
 use Rattle.probes.specs.declared.Reply.{Reply}
-use Rattle.probes.specs.Replies.{replyCode, putTwo, replyBytes, Sendable}
+use Rattle.codes.specs.Codes.{putTwo}
+use Rattle.probes.specs.Replies.{replyCode, replyBytes, Sendable}
 use borrow.Author.Needs.{needs}
 use Rattle.probes.proofs.send.Statement.{statement}
 use Rattle.probes.proofs.send.Tie as tie

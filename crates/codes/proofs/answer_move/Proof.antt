@@ -1,0 +1,72 @@
+-- `codes::answer_move` meets its contract, case by case.
+use mathlib.Core.Path.{sym, ap, ap₂, _∙_, subst}
+use native.Mathlib.Omega.{arith}
+use lib.IntN.{ℤ}
+use mir.Syntax.{w64}
+use mir.ValLaws.{toZ-ofZ}
+use denote.Ref.{now}
+use Rattle.model.specs.declared.Move.{Move}
+use Rattle.model.specs.Records.{putAll}
+use Rattle.model.specs.Answers.{code, paperOfMove}
+use Rattle.model.specs.Run.{moveBytes}
+use Rattle.readings.proofs.Narrow.{narrow-fits}
+use Rattle.codes.specs.Codes.{Movable, putTwo}
+use borrow.Author.Needs.{needs}
+use Rattle.codes.proofs.answer_move.Statement.{statement}
+use Rattle.codes.proofs.answer_move.Tie as tie
+
+enum-known-answer : tie.Need-enum-known-answer
+enum-known-answer c = search needs
+
+put-two-requires : tie.Need-put-two-requires
+put-two-requires c κs =
+    let k = c .before .before in
+    let told = c .before .known-told .given in
+    let v = k .before .before .before .pre .1 .values (k .answer .given .1) in
+    (omega (arith, k .before .before .before .pre .0), (search (narrow-fits, told, v), search (narrow-fits, told, v)))
+
+enum-known-answer-2 : tie.Need-enum-known-answer-2
+enum-known-answer-2 c = search needs
+
+code-of-requires : tie.Need-code-of-requires
+unfolding paperOfMove
+code-of-requires c κs =
+    let k = subst Movable (c .before .answer2 .given .1) (c .before .before .before .before .pre .1) .coded in
+    record { number = k .number; place = k .place }
+
+same-length : tie.Need-same-length
+same-length c = search needs
+
+returns : tie.Need-returns
+unfolding code paperOfMove moveBytes putAll
+returns c =
+    let p = c .before .before in
+    let k = p .before .before .before in
+    let told = p .before .before .known-told .given in
+    let e = k .answer .given .1 in
+    let room = now (k .before .before .before .args .room) in
+    let forward = k .answer .given .0 .0 in
+    let left = k .answer .given .0 .1 .0 in (
+      sym (ap (λ (m : Move). code (paperOfMove m)) e),
+      p .put-two .ensures
+          ∙ ap₂ (λ (f l : ℤ). putTwo room 0 f l) (toZ-ofZ w64 forward (record { sfits = told .0 .1 })) (toZ-ofZ w64 left (record { sfits = told .1 .0 .1 }))
+          ∙ sym (ap (λ (m : Move). moveBytes m room) e),
+    )
+
+returns-2 : tie.Need-returns-2
+unfolding code paperOfMove moveBytes
+returns-2 c =
+    let e = c .before .before .answer2 .given .1 in
+    (c .code-of .ensures ∙ sym (ap (λ (m : Move). code (paperOfMove m)) e), sym (ap (λ (m : Move). moveBytes m (now (c .before .before .before .before .before .args .room))) e))
+
+pub answer-move-spec : {M : Type 1} → statement M
+answer-move-spec =
+    tie.close
+    (tie.spec
+    enum-known-answer
+    put-two-requires
+    enum-known-answer-2
+    code-of-requires
+    same-length
+    returns
+    returns-2)

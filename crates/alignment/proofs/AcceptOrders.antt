@@ -1,29 +1,28 @@
 -- The rules of record bytes are those of each record and then those of the joins between their elements; so an order that has them is checked in these steps.
 use Prim.Native.Nat.{ℕ, zero, suc, _+_, _-_, _<_}
-use mathlib.Core.List.{List, _++_}
+use mathlib.Core.Bool.{false}
+use mathlib.Core.List.{List, [], _++_}
 use mathlib.Core.Path.{_≡_, refl, sym, ap, ap₂, _∙_}
 use native.Mathlib.Nat.{add-zero, zero-add, add-assoc}
 use native.Mathlib.Omega.{arith}
 use lib.ListN.{length, getD}
-use Rattle.model.specs.declared.Alignment.{Alignment}
 use Rattle.model.specs.declared.Refusal.{Refusal}
+use Rattle.model.specs.declared.Outcome.{Outcome}
 use Rattle.model.specs.declared.Outcome.the-variants.{Done, Refused}
 use Rattle.model.specs.Records.{recordBytes, countOf}
 use Rattle.model.specs.Refusals.{Rule, forEach, verdict}
 use Rattle.model.specs.Acceptance.{elementAt, joinRules, recordsRules, blocksRules, crestRules, checked, elementsFrom, elementsOf, crestElements}
 use Rattle.model.specs.Stations.{noElement}
 use Rattle.model.proofs.Verdict.{verdict-after, refused-before}
-use Rattle.alignment.specs.declared.accept.Acceptance.{Acceptance}
 use Rattle.alignment.specs.Joins.{joinsRules}
-use Rattle.alignment.specs.Accepts.{emptyAlignment, Of, Accepts}
-use Rattle.alignment.proofs.AcceptRecords.{eachRecord}
+use Rattle.alignment.specs.Accepts.{alignmentOf, acceptanceIf, acceptanceOf}
+use Rattle.alignment.proofs.AcceptGathered.{gathered-length}
+use Rattle.alignment.proofs.AcceptRecords.{eachRecord, in-records}
 
 -- ---- the joins of record bytes
 
 pub elements-length : (n r : ℕ) (bytes : List ℕ) → length (elementsFrom n r bytes) ≡ n
-unfolding elementsFrom
-elements-length zero r bytes = refl
-elements-length (suc n) r bytes = ap suc (elements-length n (r + 1) bytes)
+elements-length n r bytes = ap length (sym (in-records bytes n r)) ∙ gathered-length false bytes n r
 
 element-there : (n r : ℕ) (bytes : List ℕ) (k : ℕ) → k < n → getD (elementsFrom n r bytes) k noElement ≡ elementAt bytes (r + k)
 unfolding elementsFrom
@@ -76,16 +75,12 @@ module _ (file : List ℕ) where
   unfolding crestElements
   joins-decide b d = records-left b ∙ joins-left (recordBytes file) d
 
--- ---- what the check of a file comes to
+  -- what its check comes to
 
-pub refused-accepts : (file : List ℕ) {x : Refusal} {r : Acceptance} → checked file ≡ Refused x → r ≡ record { outcome = Refused x; alignment = emptyAlignment } → Accepts file r
-refused-accepts file e h =
-    record {
-      outcome = ap (λ (r : Acceptance). r .outcome) h ∙ sym e;
-      crest = λ d. let z : _≡_ {A = ℕ} 0 1 = cc in absurd (omega arith);
-      none = λ y d. ap (λ (r : Acceptance). r .alignment) h;
-    }
+  pub refused-accepts : {x : Refusal} → checked file ≡ Refused x → record { outcome = Refused x; alignment = alignmentOf [] } ≡ acceptanceOf file
+  unfolding acceptanceOf acceptanceIf
+  refused-accepts e = sym (ap (λ (o : Outcome). acceptanceIf o file) e)
 
-pub done-accepts : (file : List ℕ) {a : Alignment} → checked file ≡ Done → Of (crestElements file) a → Accepts file (record { outcome = Done; alignment = a })
-done-accepts file e o =
-    record { outcome = sym e; crest = λ d. o; none = λ y d. let z : _≡_ {A = ℕ} 0 1 = cc in absurd (omega arith) }
+  pub done-accepts : checked file ≡ Done → record { outcome = Done; alignment = alignmentOf (crestElements file) } ≡ acceptanceOf file
+  unfolding acceptanceOf acceptanceIf
+  done-accepts e = sym (ap (λ (o : Outcome). acceptanceIf o file) e)

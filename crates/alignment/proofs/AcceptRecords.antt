@@ -1,26 +1,23 @@
--- The elements of records that refuse nothing are accepted, and are those that an alignment holds.
+-- The elements of records that refuse nothing are accepted, and are those that were gathered.
 use Prim.Native.Nat.{ℕ, zero, suc, _+_, _≤_}
 use mathlib.Core.Bool.{true, false}
 use mathlib.Core.List.{List, _∷_}
-use mathlib.Core.Path.{_≡_, refl, ap, ap₂, _∙_}
+use mathlib.Core.Path.{_≡_, refl, ap, ap₂}
 use native.Mathlib.Omega.{arith}
 use lib.ListN.{length}
 use Rattle.model.specs.declared.Element.{Element}
-use Rattle.model.specs.declared.Alignment.{Alignment}
 use Rattle.model.specs.declared.Outcome.the-variants.{Done}
 use Rattle.model.specs.Records.{recordBytes, countOf, recordOf}
 use Rattle.model.specs.Refusals.{Rule, forEach, verdict}
 use Rattle.model.specs.Acceptance.{elementOf, elementAt, recordRules, blocksRules, elementsFrom, elementsOf, crestElements}
 use Rattle.model.specs.Writer.{countFits}
-use Rattle.model.specs.Stations.{used}
 use Rattle.model.specs.Accepted.{AllAccepted}
-use Rattle.model.proofs.Verdict.{AllHold, done→all, all→done}
+use Rattle.model.proofs.Verdict.{AllHold, all→done}
 use Rattle.model.proofs.Accepted.{record-accepted}
 use Rattle.crestfile.proofs.ForEach.{append-all}
 use Rattle.crestfile.proofs.Crest.{blocks→crest, count-fits, crest-count}
 use Rattle.crestfile.proofs.Part.{record-within}
 use Rattle.alignment.specs.Gathered.{startIn, gathered, Holds}
-use Rattle.alignment.specs.Accepts.{Of}
 
 -- ---- accepted elements
 
@@ -37,7 +34,7 @@ elements-accepted bytes (suc n) r a =
 
 -- ---- the elements that were gathered
 
-in-records : (bytes : List ℕ) (n r : ℕ) → gathered false n r bytes ≡ elementsFrom n r bytes
+pub in-records : (bytes : List ℕ) (n r : ℕ) → gathered false n r bytes ≡ elementsFrom n r bytes
 unfolding gathered startIn elementsFrom elementAt
 in-records bytes zero r = refl
 in-records bytes (suc n) r = ap (λ (l : List Element). elementAt bytes r ∷ l) (in-records bytes n (r + 1))
@@ -60,24 +57,10 @@ pub records-hold : (bytes : List ℕ) → countFits (length bytes) ≡ true → 
 unfolding startIn
 records-hold bytes f = record { most = count-fits (length bytes) .0 f .1; within = λ r h. omega arith }
 
--- an alignment of the elements of records that refuse nothing
-of-elements : (bytes : List ℕ) {a : Alignment} → countFits (length bytes) ≡ true → verdict (eachRecord bytes) ≡ Done → used a ≡ elementsOf bytes → a .count ≡ countOf bytes → Of (elementsOf bytes) a
+pub records-gathered : (bytes : List ℕ) → gathered false (countOf bytes) 0 bytes ≡ elementsOf bytes
 unfolding elementsOf
-of-elements bytes f v e n =
-    let k = count-fits (length bytes) .0 f in
-    record {
-      elements = e;
-      accepted = record {
-        some = omega (arith, k .0 .1);
-        most = omega (arith, k .1);
-        each = rw e (elements-accepted bytes (countOf bytes) 0 (done→all (eachRecord bytes) v));
-      };
-    }
+records-gathered bytes = in-records bytes (countOf bytes) 0
 
-pub records-of : (bytes : List ℕ) {a : Alignment} → countFits (length bytes) ≡ true → verdict (eachRecord bytes) ≡ Done → used a ≡ gathered false (countOf bytes) 0 bytes → a .count ≡ countOf bytes → Of (elementsOf bytes) a
-unfolding elementsOf
-records-of bytes f v e n = of-elements bytes f v (e ∙ in-records bytes (countOf bytes) 0) n
-
-pub file-of : (file : List ℕ) {a : Alignment} → verdict (blocksRules file) ≡ Done → verdict (eachRecord (recordBytes file)) ≡ Done → used a ≡ gathered true (countOf (recordBytes file)) 0 file → a .count ≡ countOf (recordBytes file) → Of (crestElements file) a
+pub file-gathered : (file : List ℕ) → verdict (blocksRules file) ≡ Done → gathered true (countOf (recordBytes file)) 0 file ≡ crestElements file
 unfolding crestElements elementsOf
-file-of file b v e n = of-elements (recordBytes file) (blocks-fit file b) v (e ∙ in-blocks file b (countOf (recordBytes file)) 0 (omega arith)) n
+file-gathered file b = in-blocks file b (countOf (recordBytes file)) 0 (omega arith)

@@ -1,29 +1,26 @@
 -- Document 01, "Refusal numbers": what the check of a file comes to, with the alignment of one that is accepted.
-use Prim.Native.Nat.{ℕ}
-use mathlib.Core.List.{List}
-use mathlib.Core.Path.{_≡_}
-use lib.ListN.{replicate}
+use Prim.Native.Nat.{ℕ, _-_}
+use mathlib.Core.List.{List, [], _++_}
+use lib.ListN.{length, replicate}
 use Rattle.model.specs.declared.Element.{Element}
 use Rattle.model.specs.declared.Alignment.{Alignment}
-use Rattle.model.specs.declared.Refusal.{Refusal}
+use Rattle.model.specs.declared.Outcome.{Outcome}
 use Rattle.model.specs.declared.Outcome.the-variants.{Done, Refused}
 use Rattle.model.specs.Records.{mostRecords}
 use Rattle.model.specs.Acceptance.{checked, crestElements}
-use Rattle.model.specs.Stations.{used, noElement}
-use Rattle.model.specs.Accepted.{AlignmentAccepted}
+use Rattle.model.specs.Stations.{noElement}
 use Rattle.alignment.specs.declared.accept.Acceptance.{Acceptance}
 
--- an alignment of the elements of record bytes or of a file; what its array holds from `count` on is left free, and nothing reads it
-pub record Of (es : List Element) (a : Alignment) : Type 0 where
-  pub elements : used a ≡ es
-  pub accepted : AlignmentAccepted a
-
--- no elements
-abbrev pub emptyAlignment : Alignment
-emptyAlignment = record { elements = replicate mostRecords noElement; count = 0 }
+-- the alignment by value of these elements; from `count` on its array holds what stands for no element
+unfoldable pub alignmentOf : List Element → Alignment
+alignmentOf es = record { elements = es ++ replicate (mostRecords - length es) noElement; count = length es }
 
 -- "An alignment is accepted when no refusal of its own bytes applies, here 1 to 9."
-pub record Accepts (file : List ℕ) (r : Acceptance) : Type 0 where
-  pub outcome : r .outcome ≡ checked file
-  pub crest : checked file ≡ Done → Of (crestElements file) (r .alignment)
-  pub none : (x : Refusal) → checked file ≡ Refused x → r .alignment ≡ emptyAlignment
+unfoldable pub acceptanceIf : Outcome → List ℕ → Acceptance
+unfolding alignmentOf crestElements
+acceptanceIf Done file = record { outcome = Done; alignment = alignmentOf (crestElements file) }
+acceptanceIf (Refused x) file = record { outcome = Refused x; alignment = alignmentOf [] }
+
+unfoldable pub acceptanceOf : List ℕ → Acceptance
+unfolding acceptanceIf checked
+acceptanceOf file = acceptanceIf (checked file) file

@@ -11,16 +11,16 @@ use model::Kind;
 use model::Outcome;
 use model::Refusal;
 ghost use mathlib.Core.Bool.{true, false};
+ghost use mathlib.Core.List.{[]};
 ghost use mathlib.Core.Path.{_≡_};
 ghost use Prim.Native.Nat.{_<_};
 ghost use lib.ListN.{length};
 ghost use Rattle.model.specs.Records.{countOf, recordOf, recordBytes};
 ghost use Rattle.model.specs.Refusals.{verdict, forEach};
 ghost use Rattle.model.specs.Acceptance.{blocksRules, recordRules, elementsOf, crestElements, checked};
-ghost use Rattle.model.specs.Stations.{used};
 ghost use Rattle.model.specs.Writer.{countFits};
 ghost use Rattle.alignment.specs.Gathered.{startIn, gathered, Holds};
-ghost use Rattle.alignment.specs.Accepts.{emptyAlignment, Of, Accepts};
+ghost use Rattle.alignment.specs.Accepts.{alignmentOf, acceptanceOf};
 
 // What the check of a file comes to, and the alignment of a file that is accepted; that of a refused one is empty.
 pub struct Acceptance {
@@ -38,7 +38,7 @@ pub fn start_in(blocks: bool, r: usize) -> usize
 
 // No elements.
 fn empty() -> Alignment
-    ensures { λ a. ⌜ a ≡ emptyAlignment ⌝ }
+    ensures { λ a. ⌜ a ≡ alignmentOf [] ⌝ }
 {
     let none = Element {
         kind: Kind::Line,
@@ -58,7 +58,7 @@ fn empty() -> Alignment
 // The elements of the first n records.
 fn gather(bytes: &[u8], blocks: bool, n: usize) -> Alignment
     requires { ⌜ Holds blocks n (now bytes) ⌝ }
-    ensures { λ a. ⌜ (used a ≡ gathered blocks n 0 (now (bytes .entry))) × (a .count ≡ n) ⌝ }
+    ensures { λ a. ⌜ a ≡ alignmentOf (gathered blocks n 0 (now (bytes .entry))) ⌝ }
 {
     let mut els = empty().elements;
     let mut r = 0;
@@ -76,7 +76,7 @@ fn gather(bytes: &[u8], blocks: bool, n: usize) -> Alignment
 pub fn of_records(records: &[u8]) -> Alignment
     requires { ⌜ countFits (length (now records)) ≡ true ⌝ }
     requires { ⌜ verdict (forEach (λ r. recordRules (recordOf (now records) r) r) (countOf (now records)) 0) ≡ Outcome.Done ⌝ }
-    ensures { λ a. ⌜ Of (elementsOf (now (records .entry))) a ⌝ }
+    ensures { λ a. ⌜ a ≡ alignmentOf (elementsOf (now (records .entry))) ⌝ }
 {
     gather(records, false, records.len() / 32)
 }
@@ -85,14 +85,14 @@ pub fn of_records(records: &[u8]) -> Alignment
 pub fn of_file(file: &[u8]) -> Alignment
     requires { ⌜ verdict (blocksRules (now file)) ≡ Outcome.Done ⌝ }
     requires { ⌜ verdict (forEach (λ r. recordRules (recordOf (recordBytes (now file)) r) r) (countOf (recordBytes (now file))) 0) ≡ Outcome.Done ⌝ }
-    ensures { λ a. ⌜ Of (crestElements (now (file .entry))) a ⌝ }
+    ensures { λ a. ⌜ a ≡ alignmentOf (crestElements (now (file .entry))) ⌝ }
 {
     gather(file, true, record_count(file))
 }
 
 // The acceptance of a file that is refused.
 fn not_accepted(x: Refusal) -> Acceptance
-    ensures { λ r. ⌜ r ≡ record { outcome = Outcome.Refused x; alignment = emptyAlignment } ⌝ }
+    ensures { λ r. ⌜ r ≡ record { outcome = Outcome.Refused x; alignment = alignmentOf [] } ⌝ }
 {
     let a = empty();
     Acceptance {
@@ -103,7 +103,7 @@ fn not_accepted(x: Refusal) -> Acceptance
 
 // 1 to 9, with the alignment of a file that is accepted.
 pub fn accept(file: &[u8]) -> Acceptance
-    ensures { λ r. ⌜ Accepts (now (file .entry)) r ⌝ }
+    ensures { λ r. ⌜ r ≡ acceptanceOf (now (file .entry)) ⌝ }
 {
     match check_blocks(file) {
         Outcome::Refused(layout) => return not_accepted(layout),

@@ -7,7 +7,7 @@ use Rattle.model.specs.declared.Element.{Element}
 use Rattle.model.specs.Acceptance.{checked, crestRules, crestElements}
 use Rattle.model.specs.Answers.{located, locatedOn}
 use Rattle.model.proofs.Answers.{located-before, located-accepted}
-use Rattle.stations.proofs.AskAnswers.{crest-of}
+use Rattle.alignment.proofs.AcceptCrest.{outcome-checked, crest-of}
 use Rattle.nearest.proofs.located.Statement.{statement}
 use Rattle.nearest.proofs.located.Tie as tie
 
@@ -21,14 +21,14 @@ enum-told : tie.Need-enum-told
 enum-told c = search needs
 
 locate-requires : tie.Need-locate-requires
-locate-requires c κs = crest-of (c .before .before .before .accept .ensures) (c .enum-told .given .1) .accepted
+locate-requires c κs = crest-of _ (c .before .before .before .accept .ensures) (c .enum-told .given .1) .accepted
 
 returns : tie.Need-returns
 unfolding located checked
 returns c =
     let d = c .before .before .before .before in
     let file = now (d .before .before .args .file) in
-    sym (located-before (crestRules file) (crestElements file) (d .before .before .args .q) (sym (d .accept .ensures .outcome) ∙ c .before .outcome .given .1))
+    sym (located-before (crestRules file) (crestElements file) (d .before .before .args .q) (sym (outcome-checked _ (d .accept .ensures)) ∙ c .before .outcome .given .1))
 
 returns-2 : tie.Need-returns-2
 returns-2 c =
@@ -36,8 +36,8 @@ returns-2 c =
     let q = d .before .before .args .q in
     let done = c .before .enum-told .given .1 in
     c .locate .ensures
-    ∙ ap (λ (es : List Element). locatedOn es q) (crest-of (d .accept .ensures) done .elements)
-    ∙ sym (located-accepted _ q (sym (d .accept .ensures .outcome) ∙ done))
+    ∙ ap (λ (es : List Element). locatedOn es q) (crest-of _ (d .accept .ensures) done .elements)
+    ∙ sym (located-accepted _ q (sym (outcome-checked _ (d .accept .ensures)) ∙ done))
 
 pub located-spec : {M : Type 1} → statement M
 located-spec =

@@ -4,10 +4,11 @@ use borrow.Author.Needs.{needs}
 use Rattle.model.specs.declared.Outcome.the-variants.{Done}
 use Rattle.model.specs.Records.{recordBytes}
 use Rattle.model.specs.Refusals.{verdict}
-use Rattle.model.specs.Acceptance.{blocksRules, checked}
+use Rattle.model.specs.Acceptance.{blocksRules, checked, crestElements}
 use Rattle.alignment.specs.Joins.{joinsRules}
-use Rattle.alignment.proofs.AcceptRecords.{eachRecord}
+use Rattle.alignment.proofs.AcceptRecords.{eachRecord, blocks-fit}
 use Rattle.alignment.proofs.AcceptOrders.{blocks-refused, records-left, record-refused, joins-decide, refused-accepts, done-accepts}
+use Rattle.alignment.proofs.AcceptCrest.{Of, records-of}
 use Rattle.alignment.proofs.accept.accept.Statement.{statement}
 use Rattle.alignment.proofs.accept.accept.Tie as tie
 
@@ -24,7 +25,7 @@ returns : tie.Need-returns
 returns c =
     let b = c .before .before .before .before in
     let file = b .before .before .args .file .now in
-    refused-accepts file (blocks-refused file (sym (b .check-blocks .ensures) ∙ c .before .before .layout .given .1)) (c .not-accepted .ensures)
+    c .not-accepted .ensures ∙ refused-accepts file (blocks-refused file (sym (b .check-blocks .ensures) ∙ c .before .before .layout .given .1))
 
 enum-told : tie.Need-enum-told
 enum-told c = search needs
@@ -47,7 +48,7 @@ returns-2 c =
     let d = r .before in
     let file = d .before .before .before .before .args .file .now in
     let e = sym (r .check-records .ensures) ∙ c .before .before .records .given .1 in
-    refused-accepts file (records-left file (blocks-done d) ∙ record-refused (recordBytes file) e) (c .not-accepted2 .ensures)
+    c .not-accepted2 .ensures ∙ refused-accepts file (records-left file (blocks-done d) ∙ record-refused (recordBytes file) e)
 
 enum-told-2 : tie.Need-enum-told-2
 enum-told-2 c = search needs
@@ -58,8 +59,12 @@ records-done c = sym (c .before .before .check-records .ensures) ∙ c .enum-tol
 of-file-requires : tie.Need-of-file-requires
 of-file-requires c κs = (blocks-done (c .before .before .before), records-done c)
 
+elements-of : (c : tie.After-of-file) → Of (crestElements (c .before .before .before .before .before .before .before .before .args .file .now)) (c .of-file .result)
+unfolding crestElements
+elements-of c = records-of _ (blocks-fit _ (blocks-done (c .before .before .before .before))) (records-done (c .before)) (c .of-file .ensures)
+
 check-joins-requires : tie.Need-check-joins-requires
-check-joins-requires c κs = search needs
+check-joins-requires c κs = elements-of c .accepted
 
 enum-known-joins : tie.Need-enum-known-joins
 enum-known-joins c = search needs
@@ -72,13 +77,13 @@ tested c =
     let f = c .before in
     let d = f .before in
     let file = d .before .before .before .before .before .before .before .args .file .now in
-    joins-decide file (blocks-done (d .before .before .before)) (records-done d) ∙ sym (c .check-joins .ensures ∙ ap (λ es. verdict (joinsRules es)) (f .of-file .ensures .elements))
+    joins-decide file (blocks-done (d .before .before .before)) (records-done d) ∙ sym (c .check-joins .ensures ∙ ap (λ es. verdict (joinsRules es)) (elements-of f .elements))
 
 returns-3 : tie.Need-returns-3
 returns-3 c =
     let j = c .before .before .before .before in
     let file = j .before .before .before .before .before .before .before .before .before .args .file .now in
-    refused-accepts file (tested j ∙ c .before .before .joins .given .1) (c .not-accepted3 .ensures)
+    c .not-accepted3 .ensures ∙ refused-accepts file (tested j ∙ c .before .before .joins .given .1)
 
 enum-told-3 : tie.Need-enum-told-3
 enum-told-3 c = search needs
@@ -87,7 +92,7 @@ returns-4 : tie.Need-returns-4
 returns-4 c =
     let j = c .before .before in
     let file = j .before .before .before .before .before .before .before .before .before .args .file .now in
-    done-accepts file (tested j ∙ c .enum-told3 .given .1) (j .before .of-file .ensures)
+    rw (j .before .of-file .ensures) (done-accepts file (tested j ∙ c .enum-told3 .given .1))
 
 pub accept-spec : {M : Type 1} → statement M
 accept-spec =

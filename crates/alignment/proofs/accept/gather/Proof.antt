@@ -1,15 +1,14 @@
--- `alignment::accept::gather` meets its contract. The loop's invariant: the first `r` elements of the array are those of the first `r` records.
+-- `alignment::accept::gather` meets its contract. The loop's invariant: the array is that of an alignment of the first `r` records.
 use Prim.Native.Nat.{_+_, _-_, _≤_}
-use mathlib.Core.Path.{_≡_, refl, ap, _∙_}
+use mathlib.Core.Path.{_≡_, ap, _∙_}
 use native.Mathlib.Omega.{arith}
 use borrow.Author.Needs.{needs}
 use lib.ListN.{length}
 use Rattle.model.specs.declared.Alignment.{Alignment}
 use Rattle.model.specs.Records.{part}
 use Rattle.model.specs.Acceptance.{elementOf}
-use Rattle.model.specs.Stations.{used}
 use Rattle.crestfile.proofs.Parts.{length-part}
-use Rattle.alignment.proofs.AcceptGathered.{Stored, stored-none, stored-next}
+use Rattle.alignment.proofs.AcceptGathered.{Stored, stored-none, stored-next, stored-all}
 use Rattle.alignment.proofs.accept.gather.Statement.{statement}
 use Rattle.alignment.proofs.accept.gather.Tie as tie
 
@@ -24,8 +23,7 @@ empty-requires c κs = search needs
 
 loop-holds : tie.Need-loop-holds Inv-loop μ-loop
 loop-holds c =
-    let e = c .before .empty .ensures in
-    stored-none (c .before .before .before .pre) (ap (λ (a : Alignment). length (a .elements)) e)
+    stored-none (c .before .before .before .pre) (ap (λ (a : Alignment). a .elements) (c .before .empty .ensures))
 
 start-in-requires : tie.Need-start-in-requires Inv-loop μ-loop
 start-in-requires c κs = omega (arith, c .before .loop .inv .holds .most)
@@ -63,12 +61,11 @@ loop-again c =
     stored-next (l .loop .inv) (omega arith) (c .element .ensures ∙ ap elementOf (p .part-at .ensures .0 ∙ ap (λ at. part bytes at 32) (s .start-in .ensures)))
 
 returns : tie.Need-returns Inv-loop μ-loop
-unfolding used
 returns c =
     let l = c .before .loop in
     let n = c .before .before .before .before .before .args .n in
     let end : l .r ≡ n = omega (arith, l .inv .within) in
-    (rw end at (l .inv .same), refl)
+    stored-all (rw end at (l .inv))
 
 pub gather-spec : {M : Type 1} → statement M
 gather-spec =

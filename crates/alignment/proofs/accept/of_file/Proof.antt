@@ -1,6 +1,8 @@
 -- `alignment::accept::of_file` meets its contract.
+use mathlib.Core.Path.{ap, _∙_}
 use borrow.Author.Needs.{needs}
-use Rattle.alignment.proofs.AcceptRecords.{blocks-hold, file-of}
+use Rattle.alignment.specs.Accepts.{alignmentOf}
+use Rattle.alignment.proofs.AcceptRecords.{blocks-hold, file-gathered}
 use Rattle.alignment.proofs.accept.of_file.Statement.{statement}
 use Rattle.alignment.proofs.accept.of_file.Tie as tie
 
@@ -14,8 +16,7 @@ returns : tie.Need-returns
 returns c =
     let n = c .before .record-count .ensures in
     let s = c .before .before .before in
-    let g = rw n at (c .gather .ensures) in
-    file-of (s .args .file .now) (s .pre .0) (s .pre .1) (g .0) (g .1)
+    rw n at (c .gather .ensures) ∙ ap alignmentOf (file-gathered (s .args .file .now) (s .pre .0))
 
 pub of-file-spec : {M : Type 1} → statement M
 of-file-spec = tie.close (tie.spec record-count-requires gather-requires returns)

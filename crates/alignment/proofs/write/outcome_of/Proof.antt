@@ -6,12 +6,13 @@ use borrow.Author.Needs.{needs}
 use lib.ListN.{length}
 use Rattle.model.specs.declared.Outcome.the-variants.{Done}
 use Rattle.model.specs.Refusals.{verdict, refusal, number, wrongRoom}
-use Rattle.model.specs.Acceptance.{recordsRules}
+use Rattle.model.specs.Acceptance.{recordsRules, elementsOf}
 use Rattle.model.specs.Writer.{countFits}
 use Rattle.crestfile.proofs.Orders.{one-refused, one-done}
 use Rattle.alignment.specs.Joins.{joinsRules}
 use Rattle.alignment.proofs.AcceptRecords.{eachRecord}
 use Rattle.alignment.proofs.AcceptOrders.{record-refused, joins-left}
+use Rattle.alignment.proofs.AcceptCrest.{Of, records-of}
 use Rattle.alignment.proofs.WriteOrders.{count-refused, records-refused, room-decides}
 use Rattle.alignment.proofs.write.outcome_of.Statement.{statement}
 use Rattle.alignment.proofs.write.outcome_of.Tie as tie
@@ -60,8 +61,11 @@ records-done c = sym (c .before .before .check-record-bytes .ensures) ∙ c .enu
 of-records-requires : tie.Need-of-records-requires
 of-records-requires c κs = (fits (c .before .before .before), records-done c)
 
+elements-of : (c : tie.After-of-records) → Of (elementsOf (c .before .before .before .before .before .before .before .args .records .now)) (c .of-records .result)
+elements-of c = records-of _ (fits (c .before .before .before .before)) (records-done (c .before)) (c .of-records .ensures)
+
 check-joins-requires : tie.Need-check-joins-requires
-check-joins-requires c κs = search needs
+check-joins-requires c κs = elements-of c .accepted
 
 enum-known-join : tie.Need-enum-known-join
 enum-known-join c = search needs
@@ -69,7 +73,7 @@ enum-known-join c = search needs
 joined : (c : tie.After-check-joins) → verdict (recordsRules (c .before .before .before .before .before .before .before .before .args .records .now)) ≡ c .check-joins .result
 joined c =
     let f = c .before in
-    joins-left _ (records-done (f .before)) ∙ sym (c .check-joins .ensures ∙ ap (λ es. verdict (joinsRules es)) (f .of-records .ensures .elements))
+    joins-left _ (records-done (f .before)) ∙ sym (c .check-joins .ensures ∙ ap (λ es. verdict (joinsRules es)) (elements-of f .elements))
 
 returns-3 : tie.Need-returns-3
 returns-3 c =

@@ -1,7 +1,8 @@
 -- `stations::ask::inverse_of` meets its contract: the crest's refusal, or the inverse on its alignment.
 use borrow.Author.Needs.{needs}
 use mir.Facts.{toZ-ofZ}
-use Rattle.stations.proofs.AskAnswers.{crest-of, ask-inverse, refuse-inverse}
+use Rattle.alignment.proofs.AcceptCrest.{crest-of}
+use Rattle.stations.proofs.AskAnswers.{ask-inverse, refuse-inverse}
 use Rattle.stations.proofs.ask.inverse_of.Statement.{statement}
 use Rattle.stations.proofs.ask.inverse_of.Tie as tie
 
@@ -15,20 +16,20 @@ enum-told : tie.Need-enum-told
 enum-told c = search needs
 
 inverse-requires : tie.Need-inverse-requires
-inverse-requires c κs = crest-of (c .before .before .before .accept .ensures) (c .enum-told .given .1) .accepted
+inverse-requires c κs = crest-of _ (c .before .before .before .accept .ensures) (c .enum-told .given .1) .accepted
 
 returns : tie.Need-returns
 returns c =
     let d = c .before .before .before .before in
     let a = d .before .before .args in
-    refuse-inverse (d .accept .ensures) (c .before .outcome .given .1) (a .s) (a .w)
+    refuse-inverse _ (d .accept .ensures) (c .before .outcome .given .1) (a .s) (a .w)
 
 returns-2 : tie.Need-returns-2
 returns-2 c =
     let d = c .before .before .before .before in
     let b = d .before .before in
     let a = b .args in
-    ask-inverse (d .accept .ensures) (c .before .enum-told .given .1) (a .s) (a .w) (rw (toZ-ofZ (b .fits .s), toZ-ofZ (b .fits .w)) at (c .inverse .ensures))
+    ask-inverse _ (d .accept .ensures) (c .before .enum-told .given .1) (a .s) (a .w) (rw (toZ-ofZ (b .fits .s), toZ-ofZ (b .fits .w)) at (c .inverse .ensures))
 
 pub inverse-of-spec : {M : Type 1} → statement M
 inverse-of-spec =

@@ -15,9 +15,8 @@ ghost use mathlib.Core.List.{[]};
 ghost use mathlib.Core.Path.{_≡_};
 ghost use Prim.Native.Nat.{_<_};
 ghost use lib.ListN.{length};
-ghost use Rattle.model.specs.Records.{countOf, recordOf, recordBytes};
-ghost use Rattle.model.specs.Refusals.{verdict, forEach};
-ghost use Rattle.model.specs.Acceptance.{blocksRules, recordRules, elementsOf, crestElements, checked};
+ghost use Rattle.model.specs.Refusals.{verdict};
+ghost use Rattle.model.specs.Acceptance.{blocksRules, elementsOf, crestElements, checked};
 ghost use Rattle.model.specs.Writer.{countFits};
 ghost use Rattle.alignment.specs.Gathered.{startIn, gathered, Holds};
 ghost use Rattle.alignment.specs.Accepts.{alignmentOf, acceptanceOf};
@@ -72,19 +71,17 @@ fn gather(bytes: &[u8], blocks: bool, n: usize) -> Alignment
     }
 }
 
-// The alignment of 1 to 60 records that refuse nothing.
+// The alignment of 1 to 60 records.
 pub fn of_records(records: &[u8]) -> Alignment
     requires { ⌜ countFits (length (now records)) ≡ true ⌝ }
-    requires { ⌜ verdict (forEach (λ r. recordRules (recordOf (now records) r) r) (countOf (now records)) 0) ≡ Outcome.Done ⌝ }
     ensures { λ a. ⌜ a ≡ alignmentOf (elementsOf (now (records .entry))) ⌝ }
 {
     gather(records, false, records.len() / 32)
 }
 
-// The alignment of a file whose blocks and records refuse nothing.
+// The alignment of a file whose blocks refuse nothing.
 pub fn of_file(file: &[u8]) -> Alignment
     requires { ⌜ verdict (blocksRules (now file)) ≡ Outcome.Done ⌝ }
-    requires { ⌜ verdict (forEach (λ r. recordRules (recordOf (recordBytes (now file)) r) r) (countOf (recordBytes (now file))) 0) ≡ Outcome.Done ⌝ }
     ensures { λ a. ⌜ a ≡ alignmentOf (crestElements (now (file .entry))) ⌝ }
 {
     gather(file, true, record_count(file))

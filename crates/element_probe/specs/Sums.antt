@@ -1,10 +1,11 @@
--- The sum that the measurement adds up, so that two programs can be compared by it.
+-- The sums that the measurements add up, so that two programs can be compared by them.
 use Prim.Native.Nat.{ℕ, zero, suc, _+_}
 use mathlib.Core.Bool.{cond}
 use mathlib.Core.List.{List, _∷_}
 use lib.Dec.{ltb, eqb}
 use lib.ListN.{length}
 use lib.IntN.{ℤ, pos, _+ℤ_, _*ℤ_}
+use Rattle.integers.specs.Root.{root}
 use Rattle.model.specs.declared.Element.{Element}
 use Rattle.model.specs.declared.Point.{Point}
 use Rattle.model.specs.declared.Outcome.{Outcome}
@@ -36,3 +37,9 @@ sumIf (Refused why) bytes n = pos 0
 unfoldable pub sumOver : List ℕ → ℕ → ℤ
 unfolding sumIf verdict recordRules
 sumOver bytes n = sumIf (verdict (rule₀ wrongRoom (eqb (length bytes) 32) ∷ recordRules bytes 0)) bytes n
+
+-- the whole square roots of k numbers from n on
+unfoldable pub rootsFrom : ℕ → ℕ → ℕ
+unfolding root
+rootsFrom zero n = 0
+rootsFrom (suc k) n = root n + rootsFrom k (n + 1)

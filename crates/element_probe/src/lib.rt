@@ -1,12 +1,12 @@
-// Exported for measurement: many stations of one element, which is prepared once.
+// Exported for measurement: many stations of one element, which is prepared once, and many whole square roots.
 use elements::Prepared;
 use model::Outcome;
 ghost use mathlib.Core.Path.{_≡_};
-ghost use Prim.Native.Nat.{_^_, _<_, _≤_};
+ghost use Prim.Native.Nat.{_*_, _^_, _<_, _≤_};
 ghost use lib.IntN.{natAbs, _+ℤ_};
 ghost use Rattle.model.specs.Series.{positionOn};
 ghost use Rattle.elements.specs.Prepared.{Ready};
-ghost use Rattle.element_probe.specs.Sums.{mixed, nextOn, sumFrom, sumOver};
+ghost use Rattle.element_probe.specs.Sums.{mixed, nextOn, sumFrom, sumOver, rootsFrom};
 
 // The next station, from the element's end again to its start.
 fn next_on(length: u64, s: u64) -> u64
@@ -56,4 +56,20 @@ pub extern "C" fn element_positions(rec: &[u8], count: u32) -> i64
         Outcome::Refused(_) => 0,
         Outcome::Done => positions(elements::prepare(records::element(rec)), count),
     }
+}
+
+// The sum of `count` whole square roots, from that of high * 2^32 on.
+#[no_mangle]
+pub extern "C" fn root_sum(high: u32, count: u32) -> u64
+    ensures { λ r. ⌜ r ≡ rootsFrom count («high» * 2 ^ 32) ⌝ }
+{
+    let first = high as u64 * 0x1_0000_0000;
+    let n = count as u64;
+    let mut sum = 0;
+    let mut i = 0;
+    while i < n {
+        sum += integers::whole_root(first + i);
+        i += 1;
+    }
+    sum
 }

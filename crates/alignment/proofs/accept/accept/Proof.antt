@@ -57,7 +57,7 @@ records-done : (c : tie.After-enum-told2) → verdict (eachRecord (recordBytes (
 records-done c = sym (c .before .before .check-records .ensures) ∙ c .enum-told2 .given .1
 
 of-file-requires : tie.Need-of-file-requires
-of-file-requires c κs = (blocks-done (c .before .before .before), records-done c)
+of-file-requires c κs = blocks-done (c .before .before .before)
 
 elements-of : (c : tie.After-of-file) → Of (crestElements (c .before .before .before .before .before .before .before .before .args .file .now)) (c .of-file .result)
 unfolding crestElements

@@ -10,13 +10,13 @@ record-count-requires : tie.Need-record-count-requires
 record-count-requires c κs = search needs
 
 gather-requires : tie.Need-gather-requires
-gather-requires c κs = rw (c .record-count .ensures) (blocks-hold (c .before .before .args .file .now) (c .before .before .pre .0))
+gather-requires c κs = rw (c .record-count .ensures) (blocks-hold (c .before .before .args .file .now) (c .before .before .pre))
 
 returns : tie.Need-returns
 returns c =
     let n = c .before .record-count .ensures in
     let s = c .before .before .before in
-    rw n at (c .gather .ensures) ∙ ap alignmentOf (file-gathered (s .args .file .now) (s .pre .0))
+    rw n at (c .gather .ensures) ∙ ap alignmentOf (file-gathered (s .args .file .now) (s .pre))
 
 pub of-file-spec : {M : Type 1} → statement M
 of-file-spec = tie.close (tie.spec record-count-requires gather-requires returns)

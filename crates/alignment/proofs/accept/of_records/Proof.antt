@@ -6,7 +6,7 @@ use Rattle.alignment.proofs.accept.of_records.Statement.{statement}
 use Rattle.alignment.proofs.accept.of_records.Tie as tie
 
 gather-requires : tie.Need-gather-requires
-gather-requires c κs = records-hold (c .before .args .records .now) (c .before .pre .0)
+gather-requires c κs = records-hold (c .before .args .records .now) (c .before .pre)
 
 returns : tie.Need-returns
 returns c = c .gather .ensures ∙ ap alignmentOf (records-gathered (c .before .before .args .records .now))

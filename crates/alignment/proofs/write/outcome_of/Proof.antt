@@ -59,7 +59,7 @@ records-done : (c : tie.After-enum-told) → verdict (eachRecord (c .before .bef
 records-done c = sym (c .before .before .check-record-bytes .ensures) ∙ c .enum-told .given .1
 
 of-records-requires : tie.Need-of-records-requires
-of-records-requires c κs = (fits (c .before .before .before), records-done c)
+of-records-requires c κs = fits (c .before .before .before)
 
 elements-of : (c : tie.After-of-records) → Of (elementsOf (c .before .before .before .before .before .before .before .args .records .now)) (c .of-records .result)
 elements-of c = records-of _ (fits (c .before .before .before .before)) (records-done (c .before)) (c .of-records .ensures)

@@ -55,6 +55,17 @@ unfoldable pub ownStations : Element → List Element → ℕ
 ownStations e [] = e .length + 1
 ownStations e (f ∷ es) = e .length
 
+-- each element's first station, and at the end T + 1: an element's own stations run from its bound up to the next. "A station at a join belongs to the later
+-- element"; "a step beyond an element's last own station goes to the next element's first"
+unfoldable pub boundsFrom : ℕ → List Element → List ℕ
+unfolding ownStations
+boundsFrom s [] = s ∷ []
+boundsFrom s (e ∷ es) = s ∷ boundsFrom (s + ownStations e es) es
+
+unfoldable pub bounds : List Element → List ℕ
+unfolding boundsFrom
+bounds es = boundsFrom 0 es
+
 -- "Then from station 0 .. after the last element the walk ends": from the first of the elements, whose first station is s
 unfoldable pub secondFrom : (ℕ → ℕ) → List Element → ℕ → ℕ → List ℕ
 unfolding elementVisits ownStations bestOf

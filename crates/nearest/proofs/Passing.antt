@@ -4,12 +4,10 @@ use mathlib.Core.List.{List, [], _∷_, _++_, append-assoc, append-nil}
 use mathlib.Core.Logic.{_≢_}
 use mathlib.Core.Path.{_≡_, refl, sym, _∙_, ap}
 use Prim.Native.Nat.{ℕ, zero, suc, _+_, _-_, _*_, _/_, _%_, _≤_, _<_, min}
-use native.Mathlib.Decide.{decLt}
 use native.Mathlib.Omega.{arith}
 use native.Mathlib.Nat.{le-refl}
 use native.Mathlib.Numerals.{add-one}
 use lib.ListN.{length, take, drop, length-append, take-append-drop, drop-of-length-le}
-use lib.Seq.{drop-cons}
 use lib.Dec.{eqb}
 use borrow.Author.Tests.{eq-eqb, ne-eqb, eqb-false}
 use Rattle.model.specs.declared.Element.{Element}
@@ -21,9 +19,8 @@ use Rattle.nearest.specs.declared.Pass.{Pass}
 use Rattle.nearest.specs.declared.Pass.the-variants.{First, Second}
 use Rattle.nearest.specs.declared.Seen.{Seen}
 use Rattle.nearest.specs.Search.{seenAt, seenOver, onElement, above, endVisit, firstOn, passVisits, passOn, passOver}
-use Rattle.stations.proofs.StationTotal.{total-first}
 use Rattle.nearest.proofs.Arrays.{first-accepted}
-use Rattle.walk_laws.proofs.Own.{D-own, total-++}
+use Rattle.walk_laws.proofs.Own.{D-own, total-at}
 use Rattle.walk_laws.proofs.Visits.{Rising, none, next, rising-from, multiples-rise, bestOf-≤}
 use Rattle.nearest.proofs.Seeing.{seenOver-++, seenOver-best, seenOver-visits}
 
@@ -205,76 +202,57 @@ first-is d (e ∷ es) h w =
     let k : 0 + total (e ∷ es) ≡ total (e ∷ es) = omega arith in
     first-from d e es 0 w ∙ ap (λ (t : ℕ). seenOver d (from 0 t) w) k ∙ ap (λ (vs : List ℕ). seenOver d vs w) (from-0 (total (e ∷ es)))
 
--- ---- a loop over the elements u, at the i-th, whose first station is s: what is left of the pass is the whole
+-- ---- a loop over the elements u, at the i-th: what is left of the pass is the whole
 
-pub record Left (pass : Pass) (u : List Element) (q : Point) (w : Seen) (i s : ℕ) (v : Seen) : Type 0 where
-  pub bound : i ≤ length u
-  pub rest : passOver pass (D u q) (drop i u) s v ≡ passOver pass (D u q) u 0 w
+pub record Left (pass : Pass) (u : List Element) (q : Point) (w : Seen) (i : ℕ) (v : Seen) : Type 0 where
+  pub rest : passOver pass (D u q) (drop i u) (total (take i u)) v ≡ passOver pass (D u q) u 0 w
   pub accepted : AllAccepted (drop i u)
-  pub at : s + total (drop i u) ≡ total u
   pub best : v .best ≤ w .best
-  pub visits : v .visits ≤ w .visits + s + 2 * i
+  pub visits : v .visits ≤ w .visits + total (take i u) + 2 * i
 
-pub left-start : (pass : Pass) (u : List Element) (q : Point) (w : Seen) → AllAccepted u → Left pass u q w 0 0 w
-left-start pass u q w h = record { bound = omega arith; rest = refl; accepted = h; at = omega arith; best = omega arith; visits = omega arith }
-
-own-last : (u : List Element) (i : ℕ) (e : Element) → length u ≤ suc i → ownStations e (drop (suc i) u) ≡ e .length + 1
-unfolding ownStations
-own-last u i e h = rw (drop-of-length-le u h)
-
-own-more : (u : List Element) (i : ℕ) (e f : Element) → suc i < length u → ownStations e (drop (suc i) u) ≡ e .length
-unfolding ownStations
-own-more u i e f h = rw (drop-cons u (suc i) f h)
-
--- the own stations of the i-th of `count` elements
-pub own-by : (u : List Element) (i : ℕ) (e f : Element) {count : ℕ} → length u ≡ count → i < count → cond (eqb (i + 1) count) (e .length + 1) (e .length) ≡ ownStations e (drop (suc i) u)
-own-by u i e f {count} n h = go (decLt (i + 1) count)
-  where
-    go : Dec (i + 1 < count) → cond (eqb (i + 1) count) (e .length + 1) (e .length) ≡ ownStations e (drop (suc i) u)
-    go (yes q) = rw (ne-eqb (i + 1) count (λ o. omega arith)) (sym (own-more u i e f (omega arith)))
-    go (no q) = rw (eq-eqb (i + 1) count (omega arith)) (sym (own-last u i e (omega arith)))
+pub left-start : (pass : Pass) (u : List Element) (q : Point) (w : Seen) → AllAccepted u → Left pass u q w 0 w
+unfolding total
+left-start pass u q w h = record { rest = refl; accepted = h; best = omega arith; visits = omega arith }
 
 first-over : (pass : Pass) (d : ℕ → ℕ) {l : List Element} {e : Element} {es : List Element} (s : ℕ) (v : Seen) → l ≡ e ∷ es → passOver pass d l s v ≡ passOver pass d es (s + e .length) (passOn pass d (e .length) (ownStations e es) s v)
 unfolding passOver
 first-over pass d s v q = ap (λ (x : List Element). passOver pass d x s v) q
 
-module _ (pass : Pass) (u : List Element) (q : Point) (w : Seen) (i s : ℕ) (v : Seen) (e : Element) (l : Left pass u q w i s v) (split : drop i u ≡ e ∷ drop (suc i) u) where
+module _ (pass : Pass) (u : List Element) (q : Point) (w : Seen) (i : ℕ) (v : Seen) (e : Element) (l : Left pass u q w i v) (split : drop i u ≡ e ∷ drop (suc i) u) where
   abbrev es : List Element
   es = drop (suc i) u
+
+  abbrev s : ℕ
+  s = total (take i u)
 
   pub left-accepted : Accepted e
   left-accepted = first-accepted split (l .accepted) .0
 
-  pub left-end : s + e .length ≤ total u
-  left-end = omega (arith, l .at, total-first split)
-
   -- where the element lies, the distance is its own
-  left-same : (x : ℕ) → s ≤ x → x < s + ownStations e (drop (suc i) u) → D u q x ≡ onElement e s q x
+  left-same : (x : ℕ) → s ≤ x → x < s + ownStations e es → D u q x ≡ onElement e s q x
   unfolding onElement
   left-same x h k =
       let whole : take i u ++ (e ∷ es) ≡ u = ap (λ (y : List Element). take i u ++ y) (sym split) ∙ take-append-drop i u in
-      let start : total (take i u) ≡ s = omega (arith, l .at, total-++ (take i u) (drop i u), ap total (take-append-drop i u)) in
       let y : s + (x - s) ≡ x = omega arith in
-      rw (start, whole, y) at (D-own (take i u) e es q (x - s) (omega arith))
+      rw (whole, y) at (D-own (take i u) e es q (x - s) (omega arith))
 
-  pub left-step : (v′ : Seen) → i < length u → v′ ≡ passOn pass (onElement e s q) (e .length) (ownStations e (drop (suc i) u)) s v → Left pass u q w (i + 1) (s + e .length) v′
-  left-step v′ h p =
+  pub left-step : (v′ : Seen) → v′ ≡ passOn pass (onElement e (total (take i u)) q) (e .length) (ownStations e (drop (suc i) u)) (total (take i u)) v → Left pass u q w (i + 1) v′
+  left-step v′ p =
       let own = ownStations e es in
       let between = own-between e es in
       let f = onElement e s q in
       let n : i + 1 ≡ suc i = add-one i in
+      let next : total (take (suc i) u) ≡ s + e .length = total-at u i e split .0 in
       let same = pass-same pass (D u q) f (e .length) own s (between .0) left-same v in
       let rest : passOver pass (D u q) es (s + e .length) v′ ≡ passOver pass (D u q) u 0 w
       = ap (passOver pass (D u q) es (s + e .length)) (p ∙ sym same) ∙ sym (first-over pass (D u q) s v split) ∙ l .rest in
       record {
-        bound = omega arith;
-        rest = rw n rest;
+        rest = rw (n, next) rest;
         accepted = rw n (first-accepted split (l .accepted) .1);
-        at = rw n (omega (arith, l .at, total-first split));
         best = omega (arith, l .best, ap (λ (x : Seen). x .best) p, pass-best pass f (e .length) own s v);
-        visits = omega (arith, l .visits, ap (λ (x : Seen). x .visits) p, pass-visits pass f (e .length) own s v, between .1);
+        visits = rw (n, next) (omega (arith, l .visits, ap (λ (x : Seen). x .visits) p, pass-visits pass f (e .length) own s v, between .1));
       }
 
-pub left-done : (pass : Pass) (u : List Element) (q : Point) (w : Seen) (i s : ℕ) (v : Seen) → Left pass u q w i s v → length u ≤ i → v ≡ passOver pass (D u q) u 0 w
+pub left-done : (pass : Pass) (u : List Element) (q : Point) (w : Seen) (i : ℕ) (v : Seen) → Left pass u q w i v → length u ≤ i → v ≡ passOver pass (D u q) u 0 w
 unfolding passOver
-left-done pass u q w i s v l h = rw (drop-of-length-le u h) at (l .rest)
+left-done pass u q w i v l h = rw (drop-of-length-le u h) at (l .rest)

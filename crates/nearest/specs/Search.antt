@@ -5,13 +5,15 @@ use mathlib.Core.List.{List, [], _∷_, _++_}
 use mathlib.Core.Path.{_≡_}
 use lib.Dec.{eqb, ltb}
 use lib.IntN.{ℤ, natAbs}
+use lib.ListN.{replicate}
 use Rattle.integers.specs.Root.{root}
 use Rattle.model.specs.declared.Element.{Element}
+use Rattle.model.specs.declared.Alignment.{Alignment}
 use Rattle.model.specs.declared.Point.{Point}
 use Rattle.model.specs.Series.{positionOn}
-use Rattle.model.specs.Stations.{distanceSq, D}
+use Rattle.model.specs.Stations.{distanceSq, D, used}
 use Rattle.model.specs.Judged.{judged, residualOf, offsetOf, minus}
-use Rattle.model.specs.Walk.{multiplesFrom, skipped, elementVisits, ownStations, visitCount}
+use Rattle.model.specs.Walk.{multiplesFrom, skipped, elementVisits, ownStations, bounds, visitCount}
 use Rattle.nearest.specs.declared.Pass.{Pass}
 use Rattle.nearest.specs.declared.Pass.the-variants.{First, Second}
 use Rattle.nearest.specs.declared.Seen.{Seen}
@@ -86,6 +88,11 @@ unfolding seenOver passVisits
 passOn pass d n own s w = seenOver d (passVisits pass d n own s (w .best)) w
 
 -- ---- all elements, of which the first begins at s
+
+-- the elements' bounds in an array for 60 elements, with 0 where there are fewer
+unfoldable pub boundsIn : Alignment → List ℕ
+unfolding bounds used
+boundsIn a = bounds (used a) ++ replicate (60 - a .count) 0
 
 unfoldable pub passOver : Pass → (ℕ → ℕ) → List Element → ℕ → Seen → Seen
 unfolding passOn ownStations

@@ -34,9 +34,11 @@ pub fn walk(a: Alignment, q: Point) -> Seen
     requires { ⌜ InFrame q ⌝ }
     ensures { λ r. ⌜ r ≡ walkedOf (used a) q ⌝ }
 {
+    let b = passes::element_bounds(a);
     let w = passes::pass_over(
         Pass::First,
         a,
+        b,
         q,
         Seen {
             best: 4611686018427387904,
@@ -44,7 +46,7 @@ pub fn walk(a: Alignment, q: Point) -> Seen
             visits: 0,
         },
     );
-    passes::pass_over(Pass::Second, a, q, w)
+    passes::pass_over(Pass::Second, a, b, q, w)
 }
 
 // The refusal with this number.

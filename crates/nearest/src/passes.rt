@@ -7,13 +7,11 @@ use elements::Prepared;
 use model::Alignment;
 use model::Point;
 ghost use mathlib.Core.Path.{_≡_};
-ghost use mathlib.Core.Bool.{cond};
-ghost use Prim.Native.Nat.{_+_, _^_, _<_, _≤_};
-ghost use lib.Dec.{eqb};
+ghost use Prim.Native.Nat.{_^_, _≤_};
 ghost use Rattle.model.specs.Accepted.{AlignmentAccepted};
 ghost use Rattle.model.specs.Stations.{used, D};
 ghost use Rattle.model.specs.Walk.{elementVisits};
-ghost use Rattle.nearest.specs.Search.{InFrame, seenOver, onElement, firstOn, endVisit, passOn, passOver, Passable};
+ghost use Rattle.nearest.specs.Search.{InFrame, seenOver, onElement, firstOn, endVisit, passOn, passOver, boundsIn, Passable};
 
 // The first pass over an element's own stations: those that are multiples of 1000.
 fn multiples_on(p: Prepared, own: u64, start: u64, q: Point, w: Seen) -> Seen
@@ -81,31 +79,42 @@ fn pass_on(pass: Pass, p: Prepared, own: u64, start: u64, q: Point, w: Seen) -> 
     }
 }
 
-// How many stations are an element's own, the i-th of `count` and n mm long: that of a join is the next element's, and T the last one's.
-fn own_stations(n: u64, i: usize, count: usize) -> u64
-    requires { ⌜ (n < 2 ^ 32) × (i < count) ⌝ }
-    ensures { λ r. ⌜ r ≡ cond (eqb (i + 1) count) (n + 1) n ⌝ }
+// Each element's first station, and T + 1 after the last: the station of a join is the next element's, and T the last one's.
+pub fn element_bounds(a: Alignment) -> [u64; 61]
+    requires { ⌜ AlignmentAccepted a ⌝ }
+    ensures { λ r. ⌜ r ≡ boundsIn a ⌝ }
 {
-    if i + 1 == count { n + 1 } else { n }
+    let count = a.count;
+    let mut b: [u64; 61] = [0; 61];
+    let mut k: usize = 0;
+    let mut s: u64 = 0;
+    while k < count {
+        let e = a.elements[k];
+        b[k] = s;
+        s += e.length;
+        k += 1;
+    }
+    b[count] = s + 1;
+    b
 }
 
 // A pass over all elements, each prepared once.
-pub fn pass_over(pass: Pass, a: Alignment, q: Point, w: Seen) -> Seen
+pub fn pass_over(pass: Pass, a: Alignment, b: [u64; 61], q: Point, w: Seen) -> Seen
     requires { ⌜ AlignmentAccepted a ⌝ }
+    requires { ⌜ b ≡ boundsIn a ⌝ }
     requires { ⌜ InFrame q ⌝ }
     requires { ⌜ (w .best ≤ 2 ^ 62) × (w .visits ≤ 2 ^ 40) ⌝ }
     ensures { λ r. ⌜ r ≡ passOver pass (D (used a) q) (used a) 0 w ⌝ }
 {
     let count = a.count;
     let mut i: usize = 0;
-    let mut start: u64 = 0;
     let mut v = w;
     while i < count {
         let e = a.elements[i];
-        let n = e.length;
-        let own = own_stations(n, i, count);
-        v = pass_on(pass, elements::prepare(e), own, start, q, v);
-        start += n;
+        let p = elements::prepare(e);
+        let start = b[i];
+        let own = b[i + 1] - start;
+        v = pass_on(pass, p, own, start, q, v);
         i += 1;
     }
     v

@@ -1,5 +1,4 @@
 -- What the proofs of several functions use.
 mod Digits
-mod Noting
 pub mod Texts
 mod Words

@@ -1,4 +1,3 @@
-// What the program prints: numbers and words in lent room, the lines, and a reading taken.
+// What the program prints: numbers and words in lent room, and the lines.
 pub mod lines;
-pub mod taking;
-pub mod text;
+mod text;

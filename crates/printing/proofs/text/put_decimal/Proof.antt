@@ -1,9 +1,10 @@
 -- `printing::text::put_decimal` meets its contract.
 use borrow.Author.Needs.{needs}
 use Prim.Native.Nat.{_+_, _≤_}
-use mathlib.Core.Path.{_∙_}
+use mathlib.Core.Path.{ap, _∙_}
 use lib.ListN.{length, take}
 use native.Mathlib.Omega.{arith}
+use Rattle.printing.specs.Text.{puts}
 use Rattle.printing.proofs.Digits.{fewest-decimal, fewest-short}
 use Rattle.printing.proofs.text.put_decimal.Statement.{statement}
 use Rattle.printing.proofs.text.put_decimal.Tie as tie
@@ -35,8 +36,7 @@ returns c =
     let text = d .ensures .1 .1 ∙ fewest-decimal (start .args .n) (d .result) (d .ensures .1 .0) in
     let few = fewest-short (start .args .n) (d .result) (start .fits .n .fits) (d .ensures .1 .0) in
     let w = c .before .before .put-word in
-    let ends : w .result ≤ start .args .at + 20 = omega (arith, d .ensures .0 .1, w .ensures .ends) in
-    (rw text at (w .ensures), ends)
+    (w .ensures .0 ∙ ap (puts _ _) text, omega (arith, d .ensures .0 .1))
 
 pub put-decimal-spec : {M : Type 1} → statement M
 put-decimal-spec =

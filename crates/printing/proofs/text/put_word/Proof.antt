@@ -1,7 +1,10 @@
 -- `printing::text::put_word` meets its contract.
 use borrow.Author.Needs.{needs}
-use mathlib.Core.Path.{ap}
-use Prim.Native.Nat.{_+_}
+use native.Mathlib.Omega.{arith}
+use mathlib.Core.Path.{ap, ap₂}
+use Prim.Native.Nat.{ℕ, _+_}
+use mathlib.Core.List.{List}
+use Rattle.printing.specs.Text.{puts}
 use Rattle.printing.proofs.Texts.{copied}
 use Rattle.printing.proofs.text.put_word.Statement.{statement}
 use Rattle.printing.proofs.text.put_word.Tie as tie
@@ -25,10 +28,11 @@ same-length : tie.Need-same-length
 same-length c = search needs
 
 returns : tie.Need-returns
+unfolding puts
 returns c =
     let a = c .before .before .before .before .before .before .args in
     let copy = c .before .before .copy in
-    record { bytes-there = copied (a .room .now) (a .at) (a .word .now) (copy .last .1 .0) (copy .ensures .1); ends = ap (λ n. a .at + n) (copy .ensures .0) }
+    (ap₂ (λ (x : ℕ) (y : List ℕ). (x, y)) (ap (λ n. a .at + n) (copy .ensures .0)) (copied (a .room .now) (a .at) (a .word .now) (copy .last .1 .0) (copy .ensures .1)), omega (arith, copy .ensures .0))
 
 pub put-word-spec : {M : Type 1} → statement M
 put-word-spec =

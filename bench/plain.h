@@ -1,4 +1,4 @@
-/* Position on an element, straight from document 01, "Position on an element", with 128-bit numbers. */
+/* Position on an element, straight from document 01, "Position on an element", with 128-bit numbers; and the whole square root. */
 #include <stdint.h>
 
 typedef __int128 whole;
@@ -44,11 +44,25 @@ static void series(const element *e, int64_t s, whole *t, whole *u, whole *v)
     }
 }
 
-static void position(const element *e, int64_t s, int64_t *x, int64_t *y)
+static inline void position(const element *e, int64_t s, int64_t *x, int64_t *y)
 {
     whole t, u = 100 * s, v = 0;
     if (e->kind != LINE)
         series(e, s, &t, &u, &v);
     *x = e->x + (int64_t)near(e->c * u - e->s * v, ONE);
     *y = e->y + (int64_t)near(e->s * u + e->c * v, ONE);
+}
+
+/* the whole square root rounded down, by bisection */
+static inline uint64_t root(uint64_t n)
+{
+    uint64_t low = 0, high = (uint64_t)1 << 32;
+    while (high - low > 1) {
+        uint64_t middle = (low + high) / 2;
+        if (middle * middle <= n)
+            low = middle;
+        else
+            high = middle;
+    }
+    return low;
 }

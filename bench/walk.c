@@ -141,19 +141,6 @@ static int accepted(const uint8_t *file, size_t length, alignment *a)
 
 /* ---- the walk */
 
-static uint64_t root(uint64_t n)
-{
-    uint64_t low = 0, high = (uint64_t)1 << 32;
-    while (high - low > 1) {
-        uint64_t middle = (low + high) / 2;
-        if (middle * middle <= n)
-            low = middle;
-        else
-            high = middle;
-    }
-    return low;
-}
-
 /* the element of a station that is not before the given one, and the station of its start */
 static void seek(const alignment *a, int64_t station, int *r, int64_t *start)
 {

@@ -9,8 +9,7 @@
 #include <time.h>
 
 #include "plain.h"
-
-uint32_t probe_locate(const uint8_t *crest, size_t crest_len, int32_t x, int32_t y, uint8_t *out, size_t out_len);
+#include "probes.h"
 
 typedef struct {
     int count;

@@ -35,7 +35,7 @@
  *     12   the point lies more than 20,000,000 grains from the nearest station                      0
  *     13   the point lies before the start: station 0 with a residual below -100 grains             0
  *     14   the point lies after the end: the last station with a residual above 100 grains          0
- *     15   the station or the offset is out of range                                                0
+ *     15   a station, an offset or a record number is out of range                                  0
  *     16   the run is full                                                                          0
  *     17   the writer's record bytes are not 32 times 1 to 60                                       0
  *     18   the room is smaller than the blocks needed, a run's bytes are not 24, or a move's not 8  0

@@ -55,7 +55,7 @@ unfoldable pub ownStations : Element → List Element → ℕ
 ownStations e [] = e .length + 1
 ownStations e (f ∷ es) = e .length
 
--- each element's first station, and at the end T + 1: an element's own stations run from its bound up to the next. "A station at a join belongs to the later
+-- each element's first station, and after the last one's T + 1: an element's own stations run from its bound up to the next. "A station at a join belongs to the later
 -- element"; "a step beyond an element's last own station goes to the next element's first"
 unfoldable pub boundsFrom : ℕ → List Element → List ℕ
 unfolding ownStations

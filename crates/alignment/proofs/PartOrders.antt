@@ -15,7 +15,7 @@ use Rattle.model.specs.Acceptance.{crestRules, checked}
 use Rattle.model.specs.Answers.{Span, spanIf, readerOutcome, readerSpan}
 use Rattle.model.proofs.Verdict.{verdict-after, refused-before, done→all, all→done}
 use Rattle.crestfile.proofs.ForEach.{append-all, holds-one}
-use Rattle.crestfile.proofs.Parts.{length-part}
+use Rattle.blocks.proofs.Parts.{length-part}
 use Rattle.alignment.specs.Lent.{Lent}
 
 module _ (file : List ℕ) (r : ℕ) where

@@ -1,7 +1,7 @@
 // The reader: a record as a part of the lent file.
 use crate::accept::check;
 use crate::accept::start_in;
-use crestfile::check::part_at;
+use blocks::part_at;
 use crestfile::check::record_count;
 use model::Outcome;
 use records::refused;

@@ -10,10 +10,10 @@ use lib.Seq.{length-take-le, take-at, drop-at, take-all, take-append-le}
 use Rattle.model.specs.Records.{usedIn, blockOf, usedBytes}
 use Rattle.model.specs.Writer.{block, blocksFrom}
 use Rattle.model.specs.Acceptance.{useFits}
-use Rattle.crestfile.proofs.Bytes.{AllBytes, front-bytes, back-bytes}
-use Rattle.crestfile.proofs.Parts.{u16-before, blockOf-first, blockOf-later}
-use Rattle.crestfile.proofs.OneBlock.{Fields, block-fields, block-length}
-use Rattle.crestfile.proofs.BlockRules.{Sound, sound-uses, sound-block, fields→sound, last-uses, earlier-uses, uses-few}
+use Rattle.blocks.proofs.Bytes.{AllBytes, front-bytes, back-bytes}
+use Rattle.blocks.proofs.OneBlock.{Fields, block-fields, block-length}
+use Rattle.blocks.proofs.BlockRules.{Sound, sound-uses, sound-block, fields→sound, last-uses, earlier-uses, uses-few}
+use Rattle.crestfile.proofs.Seams.{u16-before, blockOf-first, blockOf-later}
 
 -- "Every block but the last uses 15 records, the last 1 to 15": of n blocks the m from number b on are `file`, and their records in use are `records`.
 pub data Blocks (n : ℕ) : ℕ → ℕ → List ℕ → List ℕ → Type 0 where

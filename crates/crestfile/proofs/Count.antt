@@ -9,7 +9,7 @@ use Rattle.model.specs.declared.Outcome.the-variants.{Done}
 use Rattle.model.specs.Records.{u16At, usedIn, blockCount, recordBytes, countOf}
 use Rattle.model.specs.Refusals.{verdict}
 use Rattle.model.specs.Acceptance.{blocksRules}
-use Rattle.crestfile.proofs.Parts.{u16-after}
+use Rattle.crestfile.proofs.Seams.{u16-after}
 use Rattle.crestfile.proofs.Blocks.{Blocks, last, next, last-in-use, file-length, records-count}
 use Rattle.crestfile.proofs.Crest.{crest-blocks, blocks→crest}
 

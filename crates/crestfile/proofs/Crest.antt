@@ -15,9 +15,9 @@ use Rattle.model.specs.Acceptance.{lengthFits, sumsAgree, fieldsFit, sumRules, 
 use Rattle.model.specs.Writer.{blocksNeeded, countFits}
 use Rattle.model.proofs.Verdict.{AllHold, more, done→all, all→done}
 use Rattle.records.proofs.Tests.{eq-test, le-test, both-tests, either-test}
-use Rattle.crestfile.proofs.Parts.{length-part}
+use Rattle.blocks.proofs.Parts.{length-part}
 use Rattle.crestfile.proofs.ForEach.{all-append, append-all, one-holds, holds-one, each→all, all→each}
-use Rattle.crestfile.proofs.BlockRules.{Sound}
+use Rattle.blocks.proofs.BlockRules.{Sound}
 use Rattle.crestfile.proofs.Blocks.{Blocks, file-length, used-bytes, each-sound, records-count, sound-row}
 
 -- `file` is 1 to 4 sound blocks, and `records` are the records in use in them.

@@ -1,10 +1,6 @@
 -- The crest file: what is written reads back, what is read is written again, and a changed byte is seen.
-pub mod Bytes
-pub mod Fields
-pub mod Parts
+pub mod Seams
 pub mod ForEach
-pub mod OneBlock
-pub mod BlockRules
 pub mod Blocks
 pub mod Crest
 pub mod WriterRules
@@ -12,5 +8,4 @@ pub mod Part
 -- The laws of its functions.
 pub mod Orders
 pub mod Count
-pub mod Puts
 pub mod PutBlocks

@@ -10,7 +10,8 @@ use Rattle.model.specs.declared.Outcome.the-variants.{Done}
 use Rattle.model.specs.Records.{part, recordBytes, recordStart, countOf, recordOf, usedIn}
 use Rattle.model.specs.Refusals.{verdict}
 use Rattle.model.specs.Acceptance.{blocksRules, checked}
-use Rattle.crestfile.proofs.Parts.{part-before, part-after, length-part}
+use Rattle.blocks.proofs.Parts.{length-part}
+use Rattle.crestfile.proofs.Seams.{part-before, part-after}
 use Rattle.crestfile.proofs.Blocks.{Blocks, last, next, last-in-use, file-length, records-count}
 use Rattle.crestfile.proofs.Crest.{blocks→crest, accepted→blocks}
 

@@ -1,16 +1,16 @@
 // The refusals of a crest file by its bytes, in their order: its length, its blocks, its records.
-use crate::block::fields_fit;
-use crate::block::sums_agree;
+use blocks::fields_fit;
+use blocks::part_at;
+use blocks::sums_agree;
 use model::Outcome;
 use records::check_record;
 use records::refused;
 ghost use mathlib.Core.Bool.{true};
 ghost use mathlib.Core.List.{[], _∷_};
 ghost use mathlib.Core.Path.{_≡_};
-ghost use Prim.Native.Nat.{_+_, _≤_, _<_};
+ghost use Prim.Native.Nat.{_≤_, _<_};
 ghost use lib.ListN.{length};
-ghost use denote.Ref.{ptr};
-ghost use Rattle.model.specs.Records.{part, blockCount, recordStart, recordBytes, countOf, recordOf};
+ghost use Rattle.model.specs.Records.{blockCount, recordStart, recordBytes, countOf, recordOf};
 ghost use Rattle.model.specs.Refusals.{rule₀, verdict, forEach, byteCount};
 ghost use Rattle.model.specs.Acceptance.{lengthFits, sumRules, fieldRules, blocksRules, recordRules};
 ghost use Rattle.model.specs.Writer.{countFits};
@@ -23,15 +23,6 @@ fn check_length(len: usize) -> Outcome
         512 | 1024 | 1536 | 2048 => Outcome::Done,
         _ => refused(1, 0),
     }
-}
-
-// n bytes from `at` on, where they lie: a pointer is a block of memory and an offset in it.
-pub fn part_at(bytes: &[u8], at: usize, n: usize) -> &[u8]
-    requires { ⌜ at + n ≤ length (now bytes) ⌝ }
-    ensures { λ r. ⌜ now r ≡ part (now (bytes .entry)) at n ⌝ }
-    ensures place { λ r. ⌜ ptr r ≡ (ptr (bytes .entry) .0, at + ptr (bytes .entry) .1) ⌝ }
-{
-    &bytes[at..at + n]
 }
 
 // 2: the sums of every block.

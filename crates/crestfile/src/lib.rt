@@ -1,4 +1,3 @@
 // The crest file: blocks and records, their refusals, and the file of record bytes.
-mod block;
 pub mod check;
 pub mod write;

@@ -14,7 +14,7 @@ use Rattle.model.specs.Acceptance.{sumsAgree, checked}
 use Rattle.model.specs.Accepted.{Accepted}
 use Rattle.model.specs.Writer.{fileOf, writerOutcome, roomAfter, written}
 use Rattle.elements.proofs.Bound as bound
-use Rattle.crestfile.proofs.Bytes.{AllBytes}
+use Rattle.blocks.proofs.Bytes.{AllBytes}
 use Rattle.demands.proofs.WrittenThenRead as writing
 use Rattle.crestfile.proofs.WriterRules.{writer-done}
 use Rattle.demands.proofs.ReadThenWritten as reading

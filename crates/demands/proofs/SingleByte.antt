@@ -10,9 +10,9 @@ use lib.ListN.{length, take, drop, set, length-set}
 use lib.Seq.{length-take-le, take-set-lt, take-set-le, getD-take, getD-drop, getD-set-same, getD-set-other}
 use Rattle.model.specs.Records.{byteAt, u16At, sumOf, sumA, sumB}
 use Rattle.model.specs.Acceptance.{sumsAgree}
-use Rattle.crestfile.proofs.Bytes.{AllBytes, set-bytes}
-use Rattle.crestfile.proofs.OneBlock.{same-sums, stored-sums}
-use Rattle.crestfile.proofs.BlockRules.{sums-agree}
+use Rattle.blocks.proofs.Bytes.{AllBytes, set-bytes}
+use Rattle.blocks.proofs.OneBlock.{same-sums, stored-sums}
+use Rattle.blocks.proofs.BlockRules.{sums-agree}
 
 -- the sum takes the new byte for the old one
 sum-set : (l : List ℕ) (i v : ℕ) → i < length l → sumOf (set l i v) + byteAt l i ≡ sumOf l + v

@@ -7,7 +7,7 @@ use lib.ListN.{length}
 use Rattle.model.specs.declared.Alignment.{Alignment}
 use Rattle.model.specs.Records.{part}
 use Rattle.model.specs.Acceptance.{elementOf}
-use Rattle.crestfile.proofs.Parts.{length-part}
+use Rattle.blocks.proofs.Parts.{length-part}
 use Rattle.alignment.proofs.AcceptGathered.{Stored, stored-none, stored-next, stored-all}
 use Rattle.alignment.proofs.accept.gather.Statement.{statement}
 use Rattle.alignment.proofs.accept.gather.Tie as tie

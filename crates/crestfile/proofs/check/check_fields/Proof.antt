@@ -7,7 +7,7 @@ use borrow.Author.Tests.{not-true, not-false}
 use Rattle.model.specs.Records.{blockCount, blockOf}
 use Rattle.model.specs.Refusals.{refusal, number, blockField}
 use Rattle.model.specs.Acceptance.{fieldsFit, fieldRules}
-use Rattle.crestfile.proofs.Parts.{length-part}
+use Rattle.blocks.proofs.Parts.{length-part}
 use Rattle.crestfile.proofs.Orders.{Left, left-all, left-next, left-refused, left-none, one-done, one-refused}
 use Rattle.crestfile.proofs.check.check_fields.Statement.{statement}
 use Rattle.crestfile.proofs.check.check_fields.Tie as tie

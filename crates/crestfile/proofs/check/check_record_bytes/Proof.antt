@@ -8,7 +8,7 @@ use lib.ListN.{length}
 use Rattle.model.specs.Records.{recordOf}
 use Rattle.model.specs.Refusals.{Rule, verdict}
 use Rattle.model.specs.Acceptance.{recordRules}
-use Rattle.crestfile.proofs.Parts.{length-part}
+use Rattle.blocks.proofs.Parts.{length-part}
 use Rattle.crestfile.proofs.Crest.{count-fits}
 use Rattle.crestfile.proofs.Orders.{Left, left-all, left-next, left-refused, left-none}
 use Rattle.crestfile.proofs.check.check_record_bytes.Statement.{statement}

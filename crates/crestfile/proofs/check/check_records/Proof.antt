@@ -8,7 +8,7 @@ use lib.ListN.{length}
 use Rattle.model.specs.Records.{part, recordStart, recordBytes, recordOf}
 use Rattle.model.specs.Refusals.{Rule, verdict}
 use Rattle.model.specs.Acceptance.{recordRules}
-use Rattle.crestfile.proofs.Parts.{length-part}
+use Rattle.blocks.proofs.Parts.{length-part}
 use Rattle.crestfile.proofs.Part.{record-within}
 use Rattle.crestfile.proofs.Count.{blocks→counted}
 use Rattle.crestfile.proofs.Orders.{Left, left-all, left-next, left-refused, left-none}

@@ -5,9 +5,9 @@ use native.Mathlib.Omega.{arith}
 use lib.ListN.{length, length-take}
 use Rattle.model.specs.Records.{put}
 use Rattle.model.specs.Writer.{block}
-use Rattle.crestfile.proofs.Parts.{lent-length}
+use Rattle.blocks.proofs.Parts.{lent-length}
 use Rattle.crestfile.proofs.Crest.{count-fits}
-use Rattle.crestfile.proofs.Puts.{lent-back}
+use Rattle.blocks.proofs.Puts.{lent-back}
 use Rattle.crestfile.proofs.PutBlocks.{Written, none-written, one-more-written, all-written, block-part}
 use Rattle.crestfile.proofs.write.write_blocks.Statement.{statement}
 use Rattle.crestfile.proofs.write.write_blocks.Tie as tie

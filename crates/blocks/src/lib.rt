@@ -1,0 +1,159 @@
+// One block of a crest file: its sums and its fields, a part of lent bytes, and the block written into lent room.
+use records::all_zero;
+ghost use mathlib.Core.List.{_++_};
+ghost use mathlib.Core.Path.{_≡_};
+ghost use Prim.Native.Nat.{_+_, _≤_, _<_};
+ghost use lib.ListN.{length, replicate};
+ghost use denote.Ref.{ptr};
+ghost use Rattle.model.specs.Records.{part, put, u16Bytes, sumA, sumB};
+ghost use Rattle.model.specs.Acceptance.{sumsAgree, useFits, fieldsFit};
+ghost use Rattle.model.specs.Writer.{blockBody, block};
+
+// n bytes from `at` on, where they lie: a pointer is a block of memory and an offset in it.
+pub fn part_at(bytes: &[u8], at: usize, n: usize) -> &[u8]
+    requires { ⌜ at + n ≤ length (now bytes) ⌝ }
+    ensures { λ r. ⌜ now r ≡ part (now (bytes .entry)) at n ⌝ }
+    ensures place { λ r. ⌜ ptr r ≡ (ptr (bytes .entry) .0, at + ptr (bytes .entry) .1) ⌝ }
+{
+    &bytes[at..at + n]
+}
+
+// The two sums of a block, modulo 65,536.
+struct Sums {
+    a: u16,
+    b: u16,
+}
+
+fn wide(x: u8) -> usize
+    ensures { λ r. ⌜ r ≡ x ⌝ }
+    ensures { λ r. ⌜ r < 256 ⌝ }
+{
+    x as usize
+}
+
+// The sums of bytes 0 to 507: A adds them up, and B counts byte i 508 - i times.
+fn sums_of(block: &[u8]) -> Sums
+    requires { ⌜ 508 ≤ length (now block) ⌝ }
+    ensures { λ r. ⌜ (r .a ≡ sumA (now (block .entry))) × (r .b ≡ sumB (now (block .entry))) ⌝ }
+{
+    let mut a: usize = 0;
+    let mut b: usize = 0;
+    let mut i = 0;
+    while i < 508 {
+        let x = wide(block[i]);
+        a += x;
+        b += (508 - i) * x;
+        i += 1;
+    }
+    Sums {
+        a: (a % 65536) as u16,
+        b: (b % 65536) as u16,
+    }
+}
+
+// Whether both stored sums are those of the bytes before them.
+pub fn sums_agree(block: &[u8]) -> bool
+    requires { ⌜ length (now block) ≡ 512 ⌝ }
+    ensures { λ r. ⌜ r ≡ sumsAgree (now (block .entry)) ⌝ }
+{
+    let s = sums_of(block);
+    if fields::u16_at(block, 508) != s.a {
+        return false;
+    }
+    fields::u16_at(block, 510) == s.b
+}
+
+// Whether block b of n may use so many records: 15 in every block but the last, 1 to 15 in that.
+fn use_fits(n: usize, b: usize, used: usize) -> bool
+    requires { ⌜ b < n ⌝ }
+    ensures { λ r. ⌜ r ≡ useFits n b used ⌝ }
+{
+    if b + 1 == n {
+        return 1 <= used && used <= 15;
+    }
+    used == 15
+}
+
+// Whether block b of n has the fields that it must have, and zeros where nothing is in use.
+pub fn fields_fit(n: usize, b: usize, block: &[u8]) -> bool
+    requires { ⌜ length (now block) ≡ 512 ⌝ }
+    requires { ⌜ b < n ⌝ }
+    ensures { λ r. ⌜ r ≡ fieldsFit n b (now (block .entry)) ⌝ }
+{
+    let number = fields::u16_at(block, 480) as usize;
+    if number != b {
+        return false;
+    }
+    let used = fields::u16_at(block, 482) as usize;
+    if !use_fits(n, b, used) {
+        return false;
+    }
+    if fields::u32_at(block, 484) != 1 {
+        return false;
+    }
+    if !all_zero(&block[488..508]) {
+        return false;
+    }
+    all_zero(&block[32 * used..480])
+}
+
+// Bytes copied over the room's from `at` on.
+pub fn copy_at(room: &mut [u8], at: usize, bytes: &[u8])
+    requires { ⌜ at + length (now bytes) ≤ length (now room) ⌝ }
+    ensures { λ _. ⌜ now (room .exit) ≡ put (now (room .entry)) at (now (bytes .entry)) ⌝ }
+{
+    let mut i = 0;
+    while i < bytes.len() {
+        room[at + i] = bytes[i];
+        i += 1;
+    }
+}
+
+// n zeros from `at` on.
+fn clear_at(room: &mut [u8], at: usize, n: usize)
+    requires { ⌜ at + n ≤ length (now room) ⌝ }
+    ensures { λ _. ⌜ now (room .exit) ≡ put (now (room .entry)) at (replicate n 0) ⌝ }
+{
+    let mut i = 0;
+    while i < n {
+        room[at + i] = 0;
+        i += 1;
+    }
+}
+
+// Bytes 0 to 507 of block b: its records, zeros up to 480, the block's fields, zeros.
+fn write_body(room: &mut [u8], b: usize, records: &[u8])
+    requires { ⌜ length (now room) ≡ 512 ⌝ }
+    requires { ⌜ length (now records) ≤ 480 ⌝ }
+    requires { ⌜ b < 65536 ⌝ }
+    ensures { λ _. ⌜ now (room .exit) ≡ put (now (room .entry)) 0 (blockBody b (now (records .entry))) ⌝ }
+{
+    let n = records.len();
+    copy_at(room, 0, records);
+    clear_at(room, n, 480 - n);
+    fields::put_u16(room, 480, b as u16);
+    fields::put_u16(room, 482, (n / 32) as u16);
+    fields::put_u32(room, 484, 1);
+    clear_at(room, 488, 20);
+}
+
+// The two sums of bytes 0 to 507, after them.
+fn write_sums(room: &mut [u8])
+    requires { ⌜ length (now room) ≡ 512 ⌝ }
+    ensures { λ _. ⌜ now (room .exit) ≡ put (now (room .entry)) 508 (u16Bytes (sumA (now (room .entry))) ++ u16Bytes (sumB (now (room .entry)))) ⌝ }
+{
+    let s = sums_of(room);
+    fields::put_u16(room, 508, s.a);
+    fields::put_u16(room, 510, s.b);
+}
+
+// Block b of these records, 15 at most.
+pub fn write_block(room: &mut [u8], b: usize, records: &[u8])
+    requires { ⌜ length (now room) ≡ 512 ⌝ }
+    requires { ⌜ length (now records) ≤ 480 ⌝ }
+    requires { ⌜ b < 65536 ⌝ }
+    ensures { λ _. ⌜ now (room .exit) ≡ block b (now (records .entry)) ⌝ }
+{
+    write_body(room, b, records);
+    write_sums(room);
+}

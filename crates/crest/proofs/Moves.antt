@@ -13,7 +13,7 @@ use Rattle.model.specs.declared.Outcome.the-variants.{Done, Refused}
 use Rattle.model.specs.Refusals.{refusal, orRefused, verdict}
 use Rattle.model.specs.Answers.{code, paperOfOutcome, paperOfMove, moveRules, moveOf, moveIf, stakeOut}
 use Rattle.model.specs.Run.{moveBytes, stakeOutCall}
-use Rattle.stations.proofs.StakeAnswers.{move-small}
+use Rattle.stakes.proofs.StakeAnswers.{move-small}
 use Rattle.codes.specs.Codes.{Small, Movable}
 use Rattle.codes.proofs.Codes.{SmallOrder, none-small, rule-small}
 

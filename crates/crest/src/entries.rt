@@ -4,9 +4,9 @@ pub use alignment::part::record_outcome;
 pub use alignment::part::record_part;
 pub use alignment::write::write;
 pub use nearest::located as locate;
+pub use stakes::stake_out;
 pub use stations::ask::inverse_of as inverse;
 pub use stations::ask::placed as position;
-pub use stations::stake::stake_out;
 ghost use mathlib.Core.Path.{_≡_};
 ghost use Rattle.model.specs.Readings.{answerTo, displayOf};
 

@@ -48,7 +48,7 @@ pub extern "C" fn crest_stake_out(
     if room.len() != 8 {
         return 18;
     }
-    let answer = stations::stake::stake_out(
+    let answer = stakes::stake_out(
         point(own_x, own_y),
         point(target_x, target_y),
         heading_c as i64,

@@ -1,8 +1,4 @@
--- What is proved of the station judged and of the walk that finds it.
-pub mod Arrays
-pub mod Seeing
-pub mod Passing
-pub mod Found
+-- What is proved of the answer at the station judged.
 pub mod Placing
 pub mod Deciding
 pub mod Fitting

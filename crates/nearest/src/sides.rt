@@ -7,7 +7,8 @@ ghost use lib.Dec.{eqb};
 ghost use lib.IntN.{pos, negℤ, _+ℤ_, _*ℤ_};
 ghost use lib.Signed.{ltZ};
 ghost use Rattle.model.specs.Rounding.{ONE, near};
-ghost use Rattle.nearest.specs.Search.{InFrame, sidesOf, Placeable, Roundable};
+ghost use Rattle.walk.specs.Search.{InFrame};
+ghost use Rattle.nearest.specs.Sides.{sidesOf, Placeable, Roundable};
 
 pub struct Sides {
     pub residual: i64,

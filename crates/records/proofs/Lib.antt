@@ -3,3 +3,4 @@ pub mod Tests
 pub mod Magnitudes
 pub mod Unit
 pub mod Rest
+pub mod Frame

@@ -13,7 +13,7 @@ use Rattle.model.specs.Refusals.{verdict, orRefused, refusal, number}
 use Rattle.model.specs.Acceptance.{frame, inFrame}
 use Rattle.model.specs.Stations.{isStation}
 use Rattle.model.specs.Answers.{widestOffset, inverseAt, lineRules, inverseIf, inverseAfter, inverseOn}
-use Rattle.stations.proofs.StationRange.{framed}
+use Rattle.records.proofs.Frame.{framed}
 
 module _ (es : List Element) (s w : ℤ) where
   pub inverse-off-line : (isStation es s && leb (natAbs w) widestOffset) ≡ false → inverseOn es s w ≡ Refused (record { number = 15; place = 0 })

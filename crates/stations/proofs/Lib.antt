@@ -9,5 +9,3 @@ pub mod InverseAnswers
 pub mod StationBytes
 pub mod AskAnswers
 pub mod AskSmall
-pub mod StakeMachine
-pub mod StakeAnswers

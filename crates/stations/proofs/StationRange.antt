@@ -1,10 +1,10 @@
 -- What a test of a station says: a negative number is none, and any other is one up to T. A station is cast to a u64 as it is.
 use Prim.Native.Nat.{_≤_, _<_, _^_}
-use mathlib.Core.Bool.{true, false, and-eq-true-iff}
+use mathlib.Core.Bool.{true, false}
 use mathlib.Core.List.{List}
 use mathlib.Core.Path.{_≡_, refl, sym, subst}
 use native.Mathlib.Omega.{arith}
-use borrow.Author.Tests.{leb-true, ltb-true}
+use borrow.Author.Tests.{ltb-true}
 use lib.Dec.{T, leb, leb→le}
 use lib.IntN.{ℤ, pos, negsuc, natAbs}
 use lib.Signed.{nonNeg, ltZ}
@@ -12,7 +12,6 @@ use mir.Facts.{toZ-ofZ, and-yes}
 use mir.Syntax.{w64}
 use mir.Val.{Fits, SFits, toZ, ofZ}
 use Rattle.model.specs.declared.Element.{Element}
-use Rattle.model.specs.Acceptance.{frame, inFrame}
 use Rattle.model.specs.Stations.{isStation, total}
 
 negative : (s : ℤ) → ltZ s (pos 0) ≡ true → nonNeg s ≡ false
@@ -45,11 +44,3 @@ cast-fits (negsuc n) f t = absurd t
 -- a number that is not negative, cast from an i64
 pub held-casts : {z : ℤ} → SFits w64 z → T (nonNeg z) → T (nonNeg (toZ w64 (ofZ w64 z))) × Fits w64 (natAbs (toZ w64 (ofZ w64 z)))
 held-casts {z} f t = rw (toZ-ofZ f) (cast-fits z f t)
-
--- ---- a point of the frame
-
-pub framed : (x y : ℤ) → inFrame x y ≡ true → (natAbs x ≤ frame) × (natAbs y ≤ frame)
-unfolding inFrame
-framed x y h =
-    let g = and-eq-true-iff (leb (natAbs x) frame) (leb (natAbs y) frame) .0 h in
-    (leb-true (natAbs x) frame (g .0), leb-true (natAbs y) frame (g .1))

@@ -23,7 +23,6 @@ ghost use Rattle.model.specs.Answers.{placedIf, widestOffset, inverseAt, invers
 ghost use Rattle.model.specs.Accepted.{Accepted, AlignmentAccepted};
 
 pub mod ask;
-pub mod stake;
 
 // Where a station lies: its element, and the mm from the element's start.
 pub struct OnElement {

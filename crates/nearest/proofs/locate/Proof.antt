@@ -20,9 +20,10 @@ use Rattle.model.specs.Judged.{judged, residualAt, offsetAt}
 use Rattle.model.specs.Walk.{visitCount}
 use Rattle.model.proofs.Judged.{judged-least}
 use Rattle.elements.specs.declared.Placement.{Placement}
-use Rattle.nearest.specs.declared.Seen.{Seen}
+use Rattle.walk.specs.declared.Seen.{Seen}
+use Rattle.walk.specs.Search.{walkedOf}
 use Rattle.nearest.specs.declared.sides.Sides.{Sides}
-use Rattle.nearest.specs.Search.{Placeable, sidesOf, walkedOf}
+use Rattle.nearest.specs.Sides.{Placeable, sidesOf}
 use Rattle.nearest.proofs.Placing.{placeable, in-frame}
 use Rattle.nearest.proofs.Deciding.{gives-11, gives-12, gives-13, gives-14, gives-answer}
 use Rattle.nearest.proofs.locate.Statement.{statement}

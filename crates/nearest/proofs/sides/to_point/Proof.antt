@@ -13,7 +13,8 @@ use Rattle.model.specs.Rounding.{ONE, near}
 use Rattle.model.specs.Judged.{residualOf, offsetOf, minus}
 use Rattle.elements.specs.declared.Placement.{Placement}
 use Rattle.elements.proofs.Widths.{held, held-small}
-use Rattle.nearest.specs.Search.{InFrame, sidesOf, Placeable, Roundable}
+use Rattle.walk.specs.Search.{InFrame}
+use Rattle.nearest.specs.Sides.{sidesOf, Placeable, Roundable}
 use Rattle.nearest.proofs.sides.to_point.Statement.{statement}
 use Rattle.nearest.proofs.sides.to_point.Tie as tie
 

@@ -1,0 +1,3 @@
+-- The laws of the stake-out.
+pub mod StakeMachine
+pub mod StakeAnswers

@@ -1,0 +1,91 @@
+-- `stakes::move_by` meets its contract: the difference of the two points, along the heading and to its left.
+use mathlib.Core.List.{[], _∷_}
+use mathlib.Core.Path.{_≡_, ap, _∙_}
+use Prim.Native.Nat.{_*_, _≤_}
+use lib.IntN.{ℤ, pos, natAbs, negℤ, _+ℤ_, _-ℤ_, _*ℤ_}
+use mir.Facts.{toZ-ofZ}
+use mir.Syntax.{w64}
+use Rattle.integers.proofs.Machine.{Env, env, machine, fits-machine, by-machine}
+use Rattle.model.specs.Rounding.{ONE, near}
+use Rattle.model.specs.Acceptance.{frame}
+use Rattle.model.specs.Judged.{minus}
+use Rattle.model.specs.Answers.{moveOf}
+use Rattle.elements.proofs.Widths.{held}
+use Rattle.stakes.proofs.StakeMachine.{abs-machine}
+use Rattle.stakes.proofs.move_by.Statement.{statement}
+use Rattle.stakes.proofs.move_by.Tie as tie
+
+module _ (c : tie.Start) where
+  abbrev Γ : Env
+  Γ =
+      env (c .args .own .x ∷ c .args .own .y ∷ c .args .target .x ∷ c .args .target .y ∷ c .args .c ∷ c .args .s ∷ [])
+      (frame ∷ frame ∷ frame ∷ frame ∷ ONE ∷ ONE ∷ [])
+      (c .pre .ownX, (c .pre .ownY, (c .pre .targetX, (c .pre .targetY, (c .pre .first, (c .pre .second, tt))))))
+
+  abbrev dx : ℤ
+  dx = c .args .target .x -ℤ c .args .own .x
+
+  abbrev dy : ℤ
+  dy = c .args .target .y -ℤ c .args .own .y
+
+  -- as the machine has them
+  abbrev dx′ : ℤ
+  dx′ = held (held (c .args .target .x) -ℤ held (c .args .own .x))
+
+  abbrev dy′ : ℤ
+  dy′ = held (held (c .args .target .y) -ℤ held (c .args .own .y))
+
+  abbrev s′ : ℤ
+  s′ = held (pos 0 -ℤ held (c .args .s))
+
+  dx-small : natAbs dx′ ≤ 2 * frame
+  dx-small = abs-machine Γ dx′ (search machine depth 20) tt
+
+  dy-small : natAbs dy′ ≤ 2 * frame
+  dy-small = abs-machine Γ dy′ (search machine depth 20) tt
+
+  c-small : natAbs (held (c .args .c)) ≤ ONE
+  c-small = abs-machine Γ (held (c .args .c)) (search machine depth 20) tt
+
+  s-small : natAbs (held (c .args .s)) ≤ ONE
+  s-small = abs-machine Γ (held (c .args .s)) (search machine depth 20) tt
+
+  minus-s-small : natAbs s′ ≤ ONE
+  minus-s-small = abs-machine Γ s′ (search machine depth 20) tt
+
+  forward : held (c .args .c) *ℤ dx′ +ℤ held (c .args .s) *ℤ dy′ ≡ c .args .c *ℤ dx +ℤ c .args .s *ℤ dy
+  forward = by-machine Γ (search machine depth 20) (search machine depth 20) tt
+
+  left : s′ *ℤ dx′ +ℤ held (c .args .c) *ℤ dy′ ≡ negℤ (c .args .s) *ℤ dx +ℤ c .args .c *ℤ dy
+  left = by-machine Γ (search machine depth 20) (search machine depth 20) tt
+
+abbrev start : tie.After-struct-told4 → tie.Start
+start c = c .before .before .before .before .before .before .before .before
+
+sub-dx : tie.Need-sub-dx
+sub-dx c = fits-machine (Γ (c .before .before .before .before)) (search machine depth 20) tt
+
+sub-dy : tie.Need-sub-dy
+sub-dy c = fits-machine (Γ (start c)) (search machine depth 20) tt
+
+component-requires : tie.Need-component-requires
+component-requires c κs = let b = start c in record { first = c-small b; along = dx-small b; second = s-small b; aside = dy-small b }
+
+sub-component : tie.Need-sub-component
+sub-component c = fits-machine (Γ (start (c .before))) (search machine depth 20) tt
+
+component-requires-2 : tie.Need-component-requires-2
+component-requires-2 c κs = let b = start (c .before) in record { first = minus-s-small b; along = dx-small b; second = c-small b; aside = dy-small b }
+
+returns : tie.Need-returns
+unfolding moveOf minus
+returns c =
+    let b = start (c .before .before) in
+    let f = toZ-ofZ {w = w64} (record { sfits = c .before .component .ok }) ∙ c .before .component .ensures ∙ ap (λ (z : ℤ). near z ONE) (forward b) in
+    let l = toZ-ofZ {w = w64} (record { sfits = c .component2 .ok }) ∙ c .component2 .ensures ∙ ap (λ (z : ℤ). near z ONE) (left b) in
+    rw (f, l)
+
+pub move-by-spec : {M : Type 1} → statement M
+move-by-spec =
+    tie.close
+    (tie.spec sub-dx sub-dy component-requires sub-component component-requires-2 returns)

@@ -14,7 +14,7 @@ use Rattle.model.specs.Refusals.{Rule, forEach, verdict}
 use Rattle.model.specs.Acceptance.{elementAt, joinRules, recordsRules, blocksRules, crestRules, checked, elementsFrom, elementsOf, crestElements}
 use Rattle.model.specs.Stations.{noElement}
 use Rattle.model.proofs.Verdict.{verdict-after, refused-before}
-use Rattle.alignment.specs.Joins.{joinsRules}
+use Rattle.joins.specs.Joins.{joinsRules}
 use Rattle.alignment.specs.Accepts.{alignmentOf, acceptanceIf, acceptanceOf}
 use Rattle.alignment.proofs.AcceptGathered.{gathered-length}
 use Rattle.alignment.proofs.AcceptRecords.{eachRecord, in-records}

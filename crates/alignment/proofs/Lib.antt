@@ -1,6 +1,4 @@
 -- The joins.
-pub mod JoinNumbers
-pub mod JoinElements
 -- An alignment from bytes.
 pub mod AcceptGathered
 pub mod AcceptRecords

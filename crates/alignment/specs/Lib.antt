@@ -1,4 +1,3 @@
-pub mod Joins
 pub mod Gathered
 pub mod Accepts
 pub mod Lent

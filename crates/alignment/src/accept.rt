@@ -1,10 +1,10 @@
 // An alignment by value from bytes, and the check of a file.
-use crate::joins::check_joins;
 use blocks::part_at;
 use crestfile::check::check_blocks;
 use crestfile::check::check_records;
 use crestfile::check::record_count;
 use crestfile::check::record_start;
+use joins::check_joins;
 use model::Alignment;
 use model::Element;
 use model::Kind;

@@ -1,9 +1,9 @@
 // The writer: the file of record bytes, into lent room.
 use crate::accept::of_records;
-use crate::joins::check_joins;
 use crestfile::check::check_record_bytes;
 use crestfile::write::count_fits;
 use crestfile::write::write_blocks;
+use joins::check_joins;
 use model::Outcome;
 use records::refused;
 ghost use mathlib.Core.Path.{_≡_};

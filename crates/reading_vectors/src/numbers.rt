@@ -1,8 +1,8 @@
 // f64 numbers as whole numbers: rows of 16 bytes, the bits and the outcome.
-use readings::whole::WholeNumber;
 use vectors::Tally;
 use vectors::number;
 use vectors::with;
+use whole_numbers::WholeNumber;
 
 // An outcome in the vectors' one number: 2^62 with its sign for a whole number beyond, 2^63 - 1 for none.
 fn outcome(n: WholeNumber) -> i64 {
@@ -23,8 +23,8 @@ fn outcome(n: WholeNumber) -> i64 {
 fn agrees(row: &[u8; 16]) -> bool {
     let bits = fields::eight::u64_at(row, 0);
     let wanted = fields::eight::signed(fields::eight::u64_at(row, 8));
-    let by_bits = outcome(readings::whole::whole_of_bits(bits));
-    let by_float = outcome(readings::whole::whole_of(fields::eight::float(bits)));
+    let by_bits = outcome(whole_numbers::whole_of_bits(bits));
+    let by_float = outcome(whole_numbers::whole_of(fields::eight::float(bits)));
     (by_bits == wanted) & (by_float == wanted)
 }
 

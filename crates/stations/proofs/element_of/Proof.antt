@@ -10,7 +10,7 @@ use lib.Seq.{length-take-le}
 use Rattle.model.specs.declared.Element.{Element}
 use Rattle.model.specs.Stations.{AtElement, used, atStation, noElement}
 use Rattle.model.specs.Accepted.{Accepted}
-use Rattle.alignment.proofs.JoinElements.{length-mapped}
+use Rattle.joins.proofs.JoinElements.{length-mapped}
 use Rattle.stations.proofs.StationTotal.{used-at}
 use Rattle.stations.proofs.StationAt.{Reachable, at-first, at-later, at-last, at-reachable}
 use Rattle.stations.proofs.element_of.Statement.{statement}

@@ -9,7 +9,7 @@ use lib.ListN.{length, getD, take, drop, drop-of-length-le}
 use lib.Seq.{length-take-le}
 use Rattle.model.specs.declared.Element.{Element}
 use Rattle.model.specs.Stations.{used, total, noElement}
-use Rattle.alignment.proofs.JoinElements.{length-mapped}
+use Rattle.joins.proofs.JoinElements.{length-mapped}
 use Rattle.stations.proofs.StationTotal.{used-at, total-first, total-within}
 use Rattle.stations.proofs.total.Statement.{statement}
 use Rattle.stations.proofs.total.Tie as tie

@@ -7,7 +7,7 @@ use borrow.Author.Needs.{needs}
 use Rattle.model.specs.Stations.{used, D}
 use Rattle.walk.specs.declared.Pass.the-variants.{First}
 use Rattle.walk.specs.declared.Seen.{Seen}
-use Rattle.alignment.proofs.JoinElements.{length-mapped}
+use Rattle.joins.proofs.JoinElements.{length-mapped}
 use Rattle.stations.proofs.StationTotal.{total-within}
 use Rattle.walk.proofs.Arrays.{used-length}
 use Rattle.walk.proofs.Passing.{over-best, over-visits}

@@ -5,7 +5,7 @@ use Rattle.model.specs.declared.Outcome.the-variants.{Done}
 use Rattle.model.specs.Records.{recordBytes}
 use Rattle.model.specs.Refusals.{verdict}
 use Rattle.model.specs.Acceptance.{blocksRules, checked, crestElements}
-use Rattle.alignment.specs.Joins.{joinsRules}
+use Rattle.joins.specs.Joins.{joinsRules}
 use Rattle.alignment.proofs.AcceptRecords.{eachRecord, blocks-fit}
 use Rattle.alignment.proofs.AcceptOrders.{blocks-refused, records-left, record-refused, joins-decide, refused-accepts, done-accepts}
 use Rattle.alignment.proofs.AcceptCrest.{Of, records-of}

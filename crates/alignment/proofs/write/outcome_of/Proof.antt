@@ -9,7 +9,7 @@ use Rattle.model.specs.Refusals.{verdict, refusal, number, wrongRoom}
 use Rattle.model.specs.Acceptance.{recordsRules, elementsOf}
 use Rattle.model.specs.Writer.{countFits}
 use Rattle.crestfile.proofs.Orders.{one-refused, one-done}
-use Rattle.alignment.specs.Joins.{joinsRules}
+use Rattle.joins.specs.Joins.{joinsRules}
 use Rattle.alignment.proofs.AcceptRecords.{eachRecord}
 use Rattle.alignment.proofs.AcceptOrders.{record-refused, joins-left}
 use Rattle.alignment.proofs.AcceptCrest.{Of, records-of}

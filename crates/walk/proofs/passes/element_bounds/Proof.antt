@@ -9,7 +9,7 @@ use lib.Seq.{take-length}
 use Rattle.model.specs.Stations.{noElement, used, total}
 use Rattle.model.specs.Walk.{bounds}
 use Rattle.walk.specs.Search.{boundsIn}
-use Rattle.alignment.proofs.JoinElements.{length-mapped}
+use Rattle.joins.proofs.JoinElements.{length-mapped}
 use Rattle.stations.proofs.StationTotal.{total-within}
 use Rattle.walk.proofs.Arrays.{used-length, used-at, filled, filled-next, filled-whole}
 use Rattle.walk_laws.proofs.Own.{total-at, bounds-length, bound-at, bound-last}

@@ -10,7 +10,7 @@ use Rattle.model.specs.Accepted.{Accepted}
 use Rattle.model.specs.Stations.{noElement, used, total}
 use Rattle.model.specs.Walk.{ownStations}
 use Rattle.walk.specs.Search.{onElement, passOn}
-use Rattle.alignment.proofs.JoinElements.{length-mapped}
+use Rattle.joins.proofs.JoinElements.{length-mapped}
 use Rattle.stations.proofs.StationTotal.{total-within}
 use Rattle.walk.proofs.Arrays.{accepted-length, used-length, used-at, prepared-element, bounds-in}
 use Rattle.walk_laws.proofs.Own.{total-at}

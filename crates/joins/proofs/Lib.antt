@@ -1,0 +1,3 @@
+-- The laws of the joins.
+pub mod JoinNumbers
+pub mod JoinElements

@@ -1,0 +1,88 @@
+// The joins of an alignment: gaps and kinks between an element and the next.
+use elements::Placement;
+use model::Alignment;
+use model::Outcome;
+use model::Point;
+use records::magnitude;
+use records::refused;
+ghost use mathlib.Core.Path.{_≡_};
+ghost use lib.Dec.{leb};
+ghost use lib.IntN.{natAbs, _-ℤ_};
+ghost use Rattle.model.specs.Refusals.{verdict};
+ghost use Rattle.model.specs.Acceptance.{closeBy};
+ghost use Rattle.model.specs.Stations.{used};
+ghost use Rattle.model.specs.Accepted.{AlignmentAccepted};
+ghost use Rattle.joins.specs.Joins.{Small, SmallPoint, SmallPlacement, placedRules, joinsRules};
+
+// Whether two numbers differ by at most n.
+fn close(n: u64, a: i64, b: i64) -> bool
+    requires { ⌜ Small a ⌝ }
+    requires { ⌜ Small b ⌝ }
+    ensures { λ r. ⌜ r ≡ leb (natAbs (a -ℤ b)) n ⌝ }
+{
+    magnitude(a - b) <= n
+}
+
+// Whether two points differ by at most n in each coordinate.
+fn close_by(n: u64, p: Point, q: Point) -> bool
+    requires { ⌜ SmallPoint p ⌝ }
+    requires { ⌜ SmallPoint q ⌝ }
+    ensures { λ r. ⌜ r ≡ closeBy n p q ⌝ }
+{
+    if !close(n, p.x, q.x) {
+        return false;
+    }
+    close(n, p.y, q.y)
+}
+
+fn position_of(p: Placement) -> Point
+    ensures { λ r. ⌜ r ≡ record { x = p .x; y = p .y } ⌝ }
+{
+    Point { x: p.x, y: p.y }
+}
+
+fn heading_of(p: Placement) -> Point
+    ensures { λ r. ⌜ r ≡ record { x = p .tx; y = p .ty } ⌝ }
+{
+    Point { x: p.tx, y: p.ty }
+}
+
+// The join after record r, from where its element ends and where the next begins: the gap before the kink.
+fn check_join(last: Placement, first: Placement, r: u32) -> Outcome
+    requires { ⌜ SmallPlacement last ⌝ }
+    requires { ⌜ SmallPlacement first ⌝ }
+    ensures { λ o. ⌜ o ≡ verdict (placedRules last first r) ⌝ }
+{
+    let meets = close_by(100, position_of(last), position_of(first));
+    let continues = close_by(1000000, heading_of(last), heading_of(first));
+    if !meets {
+        return refused(8, r);
+    }
+    if !continues {
+        return refused(9, r);
+    }
+    Outcome::Done
+}
+
+// 8 and 9: every join of elements that are accepted one by one. An element is prepared once, and its end is kept for the join after it.
+pub fn check_joins(a: Alignment) -> Outcome
+    requires { ⌜ AlignmentAccepted a ⌝ }
+    ensures { λ o. ⌜ o ≡ verdict (joinsRules (used a)) ⌝ }
+{
+    let els = a.elements;
+    let count = a.count;
+    let head = els[0];
+    let mut last = elements::placed(elements::prepare(head), head.length);
+    let mut r: usize = 0;
+    while r + 1 < count {
+        let e = els[r + 1];
+        let p = elements::prepare(e);
+        match check_join(last, elements::placed(p, 0), r as u32) {
+            Outcome::Refused(x) => return Outcome::Refused(x),
+            Outcome::Done => {}
+        }
+        last = elements::placed(p, e.length);
+        r += 1;
+    }
+    Outcome::Done
+}

@@ -1,21 +1,25 @@
 -- Demand 1: "Any bytes, any reading, any order of calls end in an answer or a numbered refusal; a refusal carries no numbers and changes no lent room but the run
 -- record, which shows the latest counted reading only and keeps the first counted refusal since the last acknowledgement."
-use Prim.Native.Nat.{ℕ, _≤_}
+use Prim.Native.Nat.{ℕ, _+_, _*_, _≤_}
 use mathlib.Core.Bool.{Bool, true, false}
 use mathlib.Core.List.{List, [], _∷_, _++_}
-use mathlib.Core.Logic.{_⊎_, inl, inr}
+use mathlib.Core.Logic.{_⊎_, inl, inr, _↔_}
 use mathlib.Core.Path.{_≡_, refl, sym, _∙_, ap, subst}
 use native.Mathlib.Omega.{arith}
 use native.Mathlib.Decide.{ℕ-discrete}
-use lib.Dec.{eqb}
-use lib.ListN.{length, take, length-append}
-use lib.Seq.{take-append-seam}
-use lib.IntN.{ℤ}
+use lib.Dec.{eqb, ltb}
+use borrow.Author.Tests.{eqb-true, eq-eqb}
+use lib.ListN.{length, take, drop, replicate, length-append}
+use lib.Seq.{take-append-seam, drop-append-seam}
+use lib.IntN.{ℤ, pos, natAbs}
 use Rattle.model.specs.declared.Element.{Element}
 use Rattle.model.specs.declared.Point.{Point}
 use Rattle.model.specs.declared.Refusal.{Refusal}
 use Rattle.model.specs.declared.Outcome.{Outcome}
 use Rattle.model.specs.declared.Outcome.the-variants.{Done, Refused}
+use Rattle.model.specs.declared.Placed.the-variants.{Refused as PlacedRefused}
+use Rattle.model.specs.declared.Located.the-variants.{Refused as LocatedRefused}
+use Rattle.model.specs.declared.Inverse.the-variants.{Refused as InverseRefused}
 use Rattle.model.specs.declared.Move.{Move}
 use Rattle.model.specs.declared.Move.the-variants.{By, Refused as MoveRefused}
 use Rattle.model.specs.declared.Reading.{Reading}
@@ -25,16 +29,18 @@ use Rattle.model.specs.declared.ReadingAnswer.the-variants.{Refused as AnswerRe
 use Rattle.model.specs.Refusals.{Reason, byteCount, checksum, blockField, damagedRecord, laterKind, fieldOutOfRange, notUnit, gap, kink, notWhole, outsideFrame, tooFar, beforeStart, afterEnd, askedOutOfRange, runFull, recordCount, wrongRoom, Rule, number, refusal, rule₀, verdict}
 use Rattle.model.specs.Acceptance.{checked, crestRules, crestElements}
 use Rattle.model.specs.Judged.{judged}
-use Rattle.model.specs.Writer.{writerOutcome, roomAfter, written}
-use Rattle.model.specs.Answers.{code, paperOfOutcome, paperOfMove, pointRules, locatedIf, locatedAfter, lineRules, inverseIf, inverseAfter, moveIf, moveRules}
-use Rattle.model.specs.Readings.{answerTo, answerAfter, fromLocated, fromInverse, numberRules, wholeOf, valueOf, paperOfReading}
-use Rattle.model.specs.Run.{shownOf, isFull, runAt, runBytes, counted, acknowledged, readingCall, acknowledgeCall, writeCall, moveBytes, stakeOutCall}
+use Rattle.model.specs.Records.{byteAt, recordBytes, countOf}
+use Rattle.model.specs.Stations.{isStation}
+use Rattle.model.specs.Writer.{writerRules, writerOutcome, roomAfter, written}
+use Rattle.model.specs.Answers.{code, paperOfOutcome, paperOfPlaced, paperOfLocated, paperOfInverse, paperOfMove, readerOutcome, spanIf, readerSpan, readerPart, placedIf, placed, pointRules, locatedIf, locatedAfter, located, lineRules, inverseIf, inverseAfter, inverse, moveOf, moveIf, moveRules, stakeOut}
+use Rattle.model.specs.Readings.{answerTo, answerAfter, fromLocated, fromInverse, numberRules, wholeOf, valueOf, paperOfReading, zeroFloat, displayOf}
+use Rattle.model.specs.Run.{shownOf, isFull, runAt, runBytes, counted, acknowledged, readingCall, acknowledgeCall, checkCall, writeCall, moveBytes, stakeOutCall}
 use Rattle.model.specs.Histories.{Call, read, acknowledge, bytesAfterCalls, freshBytes, demanded}
-use Rattle.model.proofs.Verdict.{AllHold, Cause, crest-outcome, refused→first}
+use Rattle.model.proofs.Verdict.{AllHold, more, Cause, crest-outcome, refused→first, done→all, all→done}
 use Rattle.readings.proofs.Refused.{answer-number, Zeros, refusal-shows-zeros}
 use Rattle.readings.proofs.Calls.{reading-18, reading-16, reading-counted, not-counted-unchanged, acknowledge-18, acknowledge-0}
 use Rattle.answers.proofs.Storable.{answer-values}
-use Rattle.demands.proofs.Histories.{ReadingsFit, bytes-show-demanded}
+use Rattle.demands.proofs.Histories.{ReadingsFit, bytes-show-demanded, fresh-bytes-keep}
 use Rattle.demands.proofs.Lent.{Lending, Within, roomAfterAll, onRun, lent-history}
 
 -- ---- "Any bytes .. end in an answer or a numbered refusal"
@@ -65,11 +71,14 @@ reason-numbered recordCount = (omega arith, omega arith)
 reason-numbered wrongRoom = (omega arith, omega arith)
 
 -- whatever is refused has a number of the table
-pub refused-numbered : (rs : List Rule) (why : Refusal) → verdict rs ≡ Refused why → (1 ≤ why .number) × (why .number ≤ 18)
+abbrev pub Numbered : Refusal → Type 0
+Numbered why = (1 ≤ why .number) × (why .number ≤ 18)
+
+pub refused-numbered : (rs : List Rule) (why : Refusal) → verdict rs ≡ Refused why → Numbered why
 unfolding refusal
 refused-numbered rs why e =
     let c = refused→first rs why e in
-    subst (λ (r : Refusal). (1 ≤ r .number) × (r .number ≤ 18)) (sym (c .gives)) (reason-numbered (c .rule .why))
+    subst Numbered (sym (c .gives)) (reason-numbered (c .rule .why))
 
 -- ---- "any reading"
 
@@ -101,6 +110,59 @@ any-reading file r why e = (least r e, subst (λ (a : ReadingAnswer). shownOf a 
         let rules = (crestRules file ++ numberRules station offset) ++ lineRules es s w in
         refused-numbered rules why (inverse-refused (verdict rules) es s w why e) .0
 
+-- ---- "end in an answer or a numbered refusal": the other calls by value
+
+-- the crest's own, the writer's and the reader's
+pub any-check : (file : List ℕ) (why : Refusal) → checked file ≡ Refused why → Numbered why
+unfolding checked
+any-check file = refused-numbered (crestRules file)
+
+pub any-write : (records : List ℕ) (room : ℕ) (why : Refusal) → writerOutcome records room ≡ Refused why → Numbered why
+unfolding writerOutcome
+any-write records room = refused-numbered (writerRules records room)
+
+pub any-record : (file : List ℕ) (r : ℕ) (why : Refusal) → readerOutcome file r ≡ Refused why → Numbered why
+unfolding readerOutcome
+any-record file r = refused-numbered (crestRules file ++ (rule₀ askedOutOfRange (ltb r (countOf (recordBytes file))) ∷ []))
+
+-- a position, a plane point, a line place and a stake-out by value
+placed-refused : (o : Outcome) (es : List Element) (s : ℕ) (why : Refusal) → placedIf o es s ≡ PlacedRefused why → o ≡ Refused why
+unfolding placedIf
+placed-refused Done es s why e = let z : _≡_ {A = ℕ} 0 1 = cc in absurd (omega arith)
+placed-refused (Refused r) es s why e = cc
+
+pub any-position : (file : List ℕ) (s : ℤ) (why : Refusal) → placed file s ≡ PlacedRefused why → Numbered why
+unfolding placed
+any-position file s why e =
+    let es = crestElements file in
+    let rules = crestRules file ++ (rule₀ askedOutOfRange (isStation es s) ∷ []) in
+    refused-numbered rules why (placed-refused (verdict rules) es (natAbs s) why e)
+
+pub any-point : (file : List ℕ) (p : Point) (why : Refusal) → located file p ≡ LocatedRefused why → Numbered why
+unfolding located locatedAfter fromLocated
+any-point file p why e =
+    let es = crestElements file in
+    let rules = crestRules file ++ pointRules es p (judged es p) in
+    refused-numbered rules why (located-refused (verdict rules) es p (judged es p) why (ap fromLocated e))
+
+pub any-place : (file : List ℕ) (s w : ℤ) (why : Refusal) → inverse file s w ≡ InverseRefused why → Numbered why
+unfolding inverse inverseAfter fromInverse
+any-place file s w why e =
+    let es = crestElements file in
+    let rules = crestRules file ++ lineRules es s w in
+    refused-numbered rules why (inverse-refused (verdict rules) es s w why (ap fromInverse e))
+
+move-refused : (o : Outcome) (own target : Point) (c s : ℤ) (why : Refusal) → moveIf o own target c s ≡ MoveRefused why → o ≡ Refused why
+unfolding moveIf moveOf
+move-refused Done own target c s why e = let z : _≡_ {A = ℕ} 0 1 = cc in absurd (omega arith)
+move-refused (Refused r) own target c s why e = cc
+
+pub any-stake-out : (own target : Point) (c s : ℤ) (why : Refusal) → stakeOut own target c s ≡ MoveRefused why → Numbered why
+unfolding stakeOut
+any-stake-out own target c s why e =
+    let rules = moveRules own target c s in
+    refused-numbered rules why (move-refused (verdict rules) own target c s why e)
+
 -- ---- "any order of calls": what each call returns and leaves, on any bytes
 
 module _ (file : List ℕ) (r : Reading) (run : List ℕ) where
@@ -126,7 +188,100 @@ any-acknowledge-call run = go (ℕ-discrete (length run) 24)
     go (yes h) = inr (acknowledge-0 run h)
     go (no h) = inl (acknowledge-18 run h)
 
+-- ---- "end in an answer or a numbered refusal": "A C call returns the refusal number plus 256 times its place, or 0"
+
+abbrev pub Returned : ℕ → Type 0
+Returned n = (n ≡ 0) ⊎ ((why : Refusal) × Numbered why × (n ≡ why .number + 256 * why .place))
+
+returned : (rs : List Rule) → Returned (code (paperOfOutcome (verdict rs)))
+unfolding code paperOfOutcome
+returned rs = go (verdict rs) (refused-numbered rs)
+  where
+    go : (o : Outcome) → ((why : Refusal) → o ≡ Refused why → Numbered why) → Returned (code (paperOfOutcome o))
+    go Done numbered = inl refl
+    go (Refused why) numbered = inr (why, numbered why refl, refl)
+
+move-code : (o : Outcome) (own target : Point) (c s : ℤ) → code (paperOfMove (moveIf o own target c s)) ≡ code (paperOfOutcome o)
+unfolding code paperOfMove paperOfOutcome moveIf moveOf
+move-code Done own target c s = refl
+move-code (Refused why) own target c s = refl
+
+pub any-check-call : (file : List ℕ) → Returned (checkCall file)
+unfolding checkCall checked
+any-check-call file = returned (crestRules file)
+
+pub any-write-call : (records room : List ℕ) → Returned (writeCall records room .0)
+unfolding writeCall writerOutcome
+any-write-call records room = returned (writerRules records (length room))
+
+pub any-stake-out-call : (own target : Point) (c s : ℤ) (room : List ℕ) → Returned (stakeOutCall own target c s room .0)
+unfolding stakeOutCall
+any-stake-out-call own target c s room =
+    let rules = rule₀ wrongRoom (eqb (length room) 8) ∷ moveRules own target c s in
+    subst Returned (sym (move-code (verdict rules) own target c s)) (returned rules)
+
+-- ---- and 0 exactly where nothing is refused
+
+returns-0 : (rs : List Rule) → (code (paperOfOutcome (verdict rs)) ≡ 0) ↔ (verdict rs ≡ Done)
+unfolding code paperOfOutcome
+returns-0 rs = (go (verdict rs) (λ why e. refused-numbered rs why e .0), λ e. ap (λ (o : Outcome). code (paperOfOutcome o)) e)
+  where
+    go : (o : Outcome) → ((why : Refusal) → o ≡ Refused why → 1 ≤ why .number) → code (paperOfOutcome o) ≡ 0 → o ≡ Done
+    go Done least e = refl
+    go (Refused why) least e = absurd (omega (arith, least why refl, e))
+
+pub check-returns-0 : (file : List ℕ) → (checkCall file ≡ 0) ↔ (checked file ≡ Done)
+unfolding checkCall checked
+check-returns-0 file = returns-0 (crestRules file)
+
+pub write-returns-0 : (records room : List ℕ) → (writeCall records room .0 ≡ 0) ↔ (writerOutcome records (length room) ≡ Done)
+unfolding writeCall writerOutcome
+write-returns-0 records room = returns-0 (writerRules records (length room))
+
+-- where 8 bytes are lent and the move by value is not refused
+pub stake-out-returns-0 : (own target : Point) (c s : ℤ) (room : List ℕ) →
+    (stakeOutCall own target c s room .0 ≡ 0) ↔ ((length room ≡ 8) × (stakeOut own target c s ≡ moveOf own target c s))
+unfolding stakeOutCall stakeOut moveIf moveOf
+stake-out-returns-0 own target c s room = (
+  λ e. answered (done→all rules (returns-0 rules .0 (sym (move-code (verdict rules) own target c s) ∙ e))),
+  λ h.
+      let done = value (verdict (moveRules own target c s)) (h .1) in
+      move-code (verdict rules) own target c s ∙ returns-0 rules .1 (all→done (more (eq-eqb (length room) 8 (h .0)) (done→all (moveRules own target c s) done))),
+)
+  where
+    rules : List Rule
+    rules = rule₀ wrongRoom (eqb (length room) 8) ∷ moveRules own target c s
+
+    value : (o : Outcome) → moveIf o own target c s ≡ moveOf own target c s → o ≡ Done
+    value Done e = refl
+    value (Refused why) e = let z : _≡_ {A = ℕ} 0 1 = cc in absurd (omega arith)
+
+    answered : AllHold rules → (length room ≡ 8) × (moveIf (verdict (moveRules own target c s)) own target c s ≡ moveOf own target c s)
+    answered (more h a) = (eqb-true (length room) 8 h, ap (λ (o : Outcome). moveIf o own target c s) (all→done a))
+
+-- a reading that is refused does not return 0
+pub refused-reading-returns : (file : List ℕ) (r : Reading) (why : Refusal) → answerTo file r ≡ AnswerRefused why → code (paperOfReading (answerTo file r)) ≡ 0 → ⊥
+unfolding code paperOfReading
+refused-reading-returns file r why e z = omega (arith, any-reading file r why e .0, sym (ap (λ (a : ReadingAnswer). code (paperOfReading a)) e) ∙ z)
+
 -- ---- "a refusal carries no numbers"
+
+-- "all other numbers zero": of each answer by value
+pub refused-values : (why : Refusal) → (paperOfPlaced (PlacedRefused why) .values ≡ replicate 4 (pos 0)) × (paperOfLocated (LocatedRefused why) .values ≡ replicate 4 (pos 0))
+    × (paperOfInverse (InverseRefused why) .values ≡ replicate 2 (pos 0)) × (paperOfMove (MoveRefused why) .values ≡ replicate 2 (pos 0))
+    × (paperOfReading (AnswerRefused why) .values ≡ replicate 4 (pos 0))
+unfolding paperOfPlaced paperOfLocated paperOfInverse paperOfMove paperOfReading
+refused-values why = (refl, refl, refl, refl, refl)
+
+-- "It goes with a plane point's answer; else both are 0.0."
+pub refused-display : (why : Refusal) → displayOf (AnswerRefused why) ≡ record { station = zeroFloat; offset = zeroFloat }
+unfolding displayOf
+refused-display why = refl
+
+-- "a refusal hands back an empty part"
+pub refused-part : (file : List ℕ) (r : ℕ) (why : Refusal) → readerOutcome file r ≡ Refused why → readerPart file r ≡ []
+unfolding readerPart readerSpan spanIf
+refused-part file r why e = rw e
 
 pub refused-no-numbers : (file : List ℕ) (r : Reading) → (shownOf (answerTo file r) .number ≡ 0 → ⊥) → Zeros (shownOf (answerTo file r))
 refused-no-numbers file r = refusal-shows-zeros (answerTo file r)
@@ -164,8 +319,16 @@ every-fits (acknowledge ∷ cs) = (tt, every-fits cs)
 pub fresh-bytes-show-demanded : (cs : List Call) → runAt (bytesAfterCalls cs freshBytes) ≡ demanded cs
 fresh-bytes-show-demanded cs = bytes-show-demanded cs (every-fits cs)
 
--- the same where the run lies at the front of a longer room, of which each call is lent any number of bytes: those lent other than 24 leave no trace
-pub fresh-room-shows-demanded : (cs : List Lending) (rest : List ℕ) → Within (length (freshBytes ++ rest)) cs → runAt (take 24 (roomAfterAll cs (freshBytes ++ rest))) ≡ demanded (onRun cs)
-fresh-room-shows-demanded cs rest w =
-    ap runAt (lent-history cs (freshBytes ++ rest) (omega (arith, length-append freshBytes rest)) w .0 ∙ ap (bytesAfterCalls (onRun cs)) (take-append-seam freshBytes rest))
-    ∙ fresh-bytes-show-demanded (onRun cs)
+-- and its field of zero stays zero
+pub fresh-zero-stays : (cs : List Call) → (byteAt (bytesAfterCalls cs freshBytes) 10 ≡ 0) × (byteAt (bytesAfterCalls cs freshBytes) 11 ≡ 0)
+fresh-zero-stays cs = let k = fresh-bytes-keep cs in (k .1, k .2)
+
+-- The same where the run lies at the front of a longer room, of which each call is lent any number of bytes: those lent other than 24 leave no trace.
+module _ (cs : List Lending) (rest : List ℕ) (within : Within (length (freshBytes ++ rest)) cs) where
+  pub fresh-room-bytes : (take 24 (roomAfterAll cs (freshBytes ++ rest)) ≡ bytesAfterCalls (onRun cs) freshBytes) × (drop 24 (roomAfterAll cs (freshBytes ++ rest)) ≡ rest)
+  fresh-room-bytes =
+      let lent = lent-history cs (freshBytes ++ rest) (omega (arith, length-append freshBytes rest)) within in
+      (lent .0 ∙ ap (bytesAfterCalls (onRun cs)) (take-append-seam freshBytes rest), lent .1 ∙ drop-append-seam freshBytes rest)
+
+  pub fresh-room-shows-demanded : runAt (take 24 (roomAfterAll cs (freshBytes ++ rest))) ≡ demanded (onRun cs)
+  fresh-room-shows-demanded = ap runAt (fresh-room-bytes .0) ∙ fresh-bytes-show-demanded (onRun cs)

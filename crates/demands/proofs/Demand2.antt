@@ -2,21 +2,28 @@
 -- Its first words are the functions' promises: each is an equation with the definition of its number.
 use Prim.Native.Nat.{ℕ, _<_, _≤_}
 use mathlib.Core.Bool.{true, false}
-use mathlib.Core.List.{List}
+use mathlib.Core.List.{List, _++_}
 use mathlib.Core.Logic.{_≢_}
-use mathlib.Core.Path.{_≡_}
-use lib.ListN.{length, set}
+use mathlib.Core.Path.{_≡_, _∙_, ap}
+use native.Mathlib.Nat.{zero-add}
+use lib.ListN.{length, take, drop, set}
+use lib.Seq.{take-append-seam, drop-append-seam}
+use borrow.Author.Tests.{lt-ltb}
 use Rattle.model.specs.declared.Element.{Element}
 use Rattle.model.specs.declared.Outcome.the-variants.{Done}
-use Rattle.model.specs.Records.{byteAt, put, recordBytes}
+use Rattle.model.specs.Records.{byteAt, put, recordBytes, countOf, recordOf}
+use Rattle.model.specs.Refusals.{verdict, orRefused}
 use Rattle.model.specs.Bound.{Bounded}
-use Rattle.model.specs.Acceptance.{sumsAgree, checked}
+use Rattle.model.specs.Acceptance.{sumsAgree, checked, crestRules}
 use Rattle.model.specs.Accepted.{Accepted}
 use Rattle.model.specs.Writer.{fileOf, writerOutcome, roomAfter, written}
+use Rattle.model.specs.Answers.{readerOutcome, spanIf, readerSpan, readerPart}
+use Rattle.model.proofs.Verdict.{verdict-after}
 use Rattle.elements.proofs.Bound as bound
 use Rattle.blocks.proofs.Bytes.{AllBytes}
 use Rattle.demands.proofs.WrittenThenRead as writing
 use Rattle.crestfile.proofs.WriterRules.{writer-done}
+use Rattle.crestfile.proofs.Part.{record-part}
 use Rattle.demands.proofs.ReadThenWritten as reading
 use Rattle.demands.proofs.WrittenBytes as bytes
 use Rattle.demands.proofs.SingleByte as changed
@@ -35,6 +42,28 @@ written-reads-back records room e = let w = writing.written-then-read records (w
 pub written-file : (records room : List ℕ) → writerOutcome records (length room) ≡ Done → written records room ≡ put room 0 (fileOf records)
 unfolding written roomAfter
 written-file records room e = rw e
+
+-- bytes put at the start
+put-first : (room bytes : List ℕ) → put room 0 bytes ≡ bytes ++ drop (length bytes) room
+unfolding put
+put-first room bytes = ap (λ (n : ℕ). bytes ++ drop n room) (zero-add (length bytes))
+
+module _ (records room : List ℕ) (done : writerOutcome records (length room) ≡ Done) where
+  -- the front of the room is the file, and the rest is as it came
+  pub written-front : take (length (fileOf records)) (written records room) ≡ fileOf records
+  written-front = rw (written-file records room done, put-first room (fileOf records)) (take-append-seam (fileOf records) (drop (length (fileOf records)) room))
+
+  pub written-rest : drop (length (fileOf records)) (written records room) ≡ drop (length (fileOf records)) room
+  written-rest = rw (written-file records room done, put-first room (fileOf records)) (drop-append-seam (fileOf records) (drop (length (fileOf records)) room))
+
+  -- and the reader hands back each record given
+  pub record-reads-back : (r : ℕ) → r < countOf records → (readerOutcome (fileOf records) r ≡ Done) × (readerPart (fileOf records) r ≡ recordOf records r)
+  unfolding readerOutcome readerPart readerSpan spanIf checked verdict orRefused
+  record-reads-back r h =
+      let (accepted, same) = written-reads-back records (length room) done in
+      let file = fileOf records in
+      let outcome : readerOutcome file r ≡ Done = verdict-after (crestRules file) _ accepted ∙ rw (same, lt-ltb r (countOf records) h) in
+      (outcome, rw outcome (record-part file r accepted (rw same h) .0 ∙ ap (λ (l : List ℕ). recordOf l r) same))
 
 -- ---- "and a crest has one file only"
 

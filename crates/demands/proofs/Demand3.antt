@@ -1,11 +1,12 @@
 -- Demand 3: "For every accepted alignment and every point in the frame, the station judged is the least one of least distance, anywhere on the alignment; 12, 13 and 14
 -- are given exactly when their condition holds there; the visit count is the published walk's; what the walk leaves out lies farther."
-use mathlib.Core.Bool.{true, false}
-use mathlib.Core.List.{List}
-use mathlib.Core.Logic.{_↔_}
-use mathlib.Core.Path.{_≡_}
+use mathlib.Core.Bool.{true, false, and-false}
+use mathlib.Core.List.{List, [], _∷_, _++_}
+use mathlib.Core.Logic.{_⊎_, inl, inr, _↔_}
+use mathlib.Core.Path.{_≡_, _∙_, ap, ap₂}
 use Prim.Native.Nat.{ℕ, _+_, _*_, _≤_, _<_}
 use lib.ListN.{length}
+use lib.Ieee.{Float}
 use lib.IntN.{ℤ, pos, negℤ}
 use lib.Signed.{_<ℤ_}
 use Rattle.model.specs.declared.Element.{Element}
@@ -13,14 +14,19 @@ use Rattle.model.specs.declared.Point.{Point}
 use Rattle.model.specs.declared.Refusal.{Refusal}
 use Rattle.model.specs.declared.Outcome.the-variants.{Done, Refused}
 use Rattle.model.specs.declared.Located.the-variants.{At as LocatedAt, Refused as LocatedRefused}
+use Rattle.model.specs.declared.Reading.the-variants.{PlanePoint, LinePlace}
+use Rattle.model.specs.declared.ReadingAnswer.the-variants.{Refused as AnswerRefused}
 use Rattle.model.specs.Series.{positionOn}
-use Rattle.model.specs.Refusals.{refusal, tooFar, beforeStart, afterEnd}
-use Rattle.model.specs.Acceptance.{inFrame, checked, crestElements}
+use Rattle.model.specs.Refusals.{refusal, notWhole, tooFar, beforeStart, afterEnd, Rule, orRefused, verdict}
+use Rattle.model.specs.Acceptance.{inFrame, checked, crestRules, crestElements}
 use Rattle.model.specs.Accepted.{Accepted, AllAccepted}
 use Rattle.model.specs.Stations.{total, distanceSq, D}
 use Rattle.model.specs.Judged.{judged, residualAt}
 use Rattle.model.specs.Walk.{firstVisits, bestOf, secondVisits, visits, isIn}
-use Rattle.model.specs.Answers.{locatedOn, located}
+use Rattle.model.specs.Answers.{pointRules, locatedIf, locatedAfter, locatedOn, located, lineRules, inverseIf, inverseAfter, inverse}
+use Rattle.model.specs.Readings.{whole, none, wholeOf, isWhole, valueOf, numberRules, fromLocated, fromInverse, answerAfter, answerTo}
+use Rattle.model.proofs.Verdict.{verdict-after}
+use Rattle.model.proofs.Answers.{located-before, inverse-before}
 use Rattle.model.proofs.Judged.{judged-least}
 use Rattle.walk_laws.proofs.Spaced as spaced
 use Rattle.walk_laws.proofs.Walked as walked
@@ -110,6 +116,63 @@ module _ (file : List ℕ) (p : Point) where
   pub file-answered-else : (station : ℕ) (offset residual : ℤ) (count : ℕ) →
       (located file p ≡ LocatedAt station offset residual count) ↔ ((checked file ≡ Done) × Answered (crestElements file) p station offset residual count)
   file-answered-else = outcomes.file-answered file p
+
+-- ---- a crest file, and any reading, as the run and the C calls are given it
+
+-- rules that hold between others decide nothing
+held-between : (rs ss ts : List Rule) → verdict ss ≡ Done → verdict ((rs ++ ss) ++ ts) ≡ verdict (rs ++ ts)
+unfolding verdict
+held-between [] ss ts e = verdict-after ss ts e
+held-between (r ∷ rs) ss ts e = ap (orRefused (r .holds) (r .why) (r .place)) (held-between rs ss ts e)
+
+module _ (rs ss : List Rule) (e : verdict ss ≡ Done) (es : List Element) where
+  held-located : (p : Point) → locatedAfter (rs ++ ss) es p ≡ locatedAfter rs es p
+  unfolding locatedAfter
+  held-located p = let s = judged es p in ap (λ o. locatedIf o es p s) (held-between rs ss (pointRules es p s) e)
+
+  held-inverse : (s w : ℤ) → inverseAfter (rs ++ ss) es s w ≡ inverseAfter rs es s w
+  unfolding inverseAfter
+  held-inverse s w = ap (λ o. inverseIf o es s w) (held-between rs ss (lineRules es s w) e)
+
+module _ (file : List ℕ) (x y : Float) where
+  both-whole : {a b : ℤ} → wholeOf x ≡ whole a → wholeOf y ≡ whole b → verdict (numberRules x y) ≡ Done
+  unfolding numberRules isWhole verdict orRefused
+  both-whole p q = rw (p, q)
+
+  one-not : checked file ≡ Done → (wholeOf x ≡ none) ⊎ (wholeOf y ≡ none) → verdict (crestRules file ++ numberRules x y) ≡ Refused (refusal notWhole 0)
+  unfolding checked numberRules isWhole verdict orRefused
+  one-not e h = verdict-after (crestRules file) (numberRules x y) e ∙ go h
+    where
+      go : (wholeOf x ≡ none) ⊎ (wholeOf y ≡ none) → verdict (numberRules x y) ≡ Refused (refusal notWhole 0)
+      go (inl p) = rw p
+      go (inr p) = rw (p, and-false (isWhole (wholeOf x)))
+
+  -- a plane point of two whole numbers is answered as the point of these numbers: the above holds of it
+  pub point-reading : {a b : ℤ} → wholeOf x ≡ whole a → wholeOf y ≡ whole b → answerTo file (PlanePoint x y) ≡ fromLocated (located file (record { x = a; y = b }))
+  unfolding answerTo answerAfter located valueOf
+  point-reading {a} {b} p q =
+      let es = crestElements file in
+      ap₂ (λ (u v : ℤ). fromLocated (locatedAfter (crestRules file ++ numberRules x y) es (record { x = u; y = v }))) (ap valueOf p) (ap valueOf q)
+      ∙ ap fromLocated (held-located (crestRules file) (numberRules x y) (both-whole p q) es (record { x = a; y = b }))
+
+  -- a line place of two whole numbers likewise
+  pub place-reading : {a b : ℤ} → wholeOf x ≡ whole a → wholeOf y ≡ whole b → answerTo file (LinePlace x y) ≡ fromInverse (inverse file a b)
+  unfolding answerTo answerAfter inverse valueOf
+  place-reading {a} {b} p q =
+      let es = crestElements file in
+      ap₂ (λ (u v : ℤ). fromInverse (inverseAfter (crestRules file ++ numberRules x y) es u v)) (ap valueOf p) (ap valueOf q)
+      ∙ ap fromInverse (held-inverse (crestRules file) (numberRules x y) (both-whole p q) es a b)
+
+  -- "10 | a reading's number not finite or not whole": of either sort, on an accepted file
+  pub reading-not-whole : checked file ≡ Done → (wholeOf x ≡ none) ⊎ (wholeOf y ≡ none) →
+      (answerTo file (PlanePoint x y) ≡ AnswerRefused (refusal notWhole 0)) × (answerTo file (LinePlace x y) ≡ AnswerRefused (refusal notWhole 0))
+  unfolding answerTo answerAfter fromLocated fromInverse
+  reading-not-whole e h =
+      let before = crestRules file ++ numberRules x y in
+      let es = crestElements file in
+      let a = valueOf (wholeOf x) in
+      let b = valueOf (wholeOf y) in
+      (ap fromLocated (located-before before es (record { x = a; y = b }) (one-not e h)), ap fromInverse (inverse-before before es a b (one-not e h)))
 
 -- ---- 5. what 2 and 3 rest on
 

@@ -4,3 +4,4 @@ pub mod Short
 pub mod Numbers
 pub mod Crest
 pub mod Storable
+pub mod Noting

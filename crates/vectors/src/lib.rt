@@ -1,7 +1,9 @@
 // What the programs that compare with the reference share: a count of comparisons, and the parts of a vector file on standard
 // input.
 ghost use Prim.Native.Nat.{_≤_};
+ghost use mathlib.Core.Path.{_≡_};
 ghost use lib.ListN.{length};
+ghost use Rattle.vectors.specs.Compared.{nothingCompared, compared};
 
 // How many comparisons are done, and how many of them differ.
 pub struct Tally {
@@ -9,12 +11,16 @@ pub struct Tally {
     pub differ: u64,
 }
 
-pub fn none() -> Tally {
+pub fn none() -> Tally
+    ensures { λ r. ⌜ r ≡ nothingCompared ⌝ }
+{
     Tally { done: 0, differ: 0 }
 }
 
 // One comparison more.
-pub fn with(t: Tally, same: bool) -> Tally {
+pub fn with(t: Tally, same: bool) -> Tally
+    ensures { λ r. ⌜ r ≡ compared t same ⌝ }
+{
     let done = std::num::wrapping_add_u64(t.done, 1);
     if same {
         Tally {

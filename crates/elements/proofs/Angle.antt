@@ -155,6 +155,3 @@ module _ (e : Element) (a : Accepted e) (s : ℕ) (h : s ≤ e .length) where
 
   pub angleAt-within : natAbs (angleAt e s) ≤ 2 ^ 29
   angleAt-within = rw angleAt-is (angle-within turnAt-turn)
-
-  pub angleAt-square : Square (squareOf (angleAt e s))
-  angleAt-square = squareOf-square (angleAt e s) angleAt-within

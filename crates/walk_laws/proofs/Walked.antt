@@ -100,10 +100,6 @@ module _ (es : List Element) (some : 0 < length es) (accepted : AllAccepted es) 
       (second-on v)
       (or-cases (isIn v (firstVisits (total es))) (isIn v (secondVisits es p)) (sym (isIn-++ v (firstVisits (total es)) (secondVisits es p)) ∙ e))
 
-  -- the least of the second pass's visits of least D is the station judged
-  pub second-station : (a : ℕ) → LeastIn (D es p) (secondVisits es p) a ↔ (a ≡ judged es p)
-  second-station = least-among (judged-least es p) judged-visited second-on
-
   pub walk-station : (a : ℕ) → LeastIn (D es p) (visits es p) a ↔ (a ≡ judged es p)
   unfolding visits
   walk-station =

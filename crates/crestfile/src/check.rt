@@ -10,10 +10,11 @@ ghost use mathlib.Core.List.{[], _∷_};
 ghost use mathlib.Core.Path.{_≡_};
 ghost use Prim.Native.Nat.{_≤_, _<_};
 ghost use lib.ListN.{length};
-ghost use Rattle.model.specs.Records.{blockCount, recordStart, recordBytes, countOf, recordOf};
+ghost use Rattle.model.specs.Records.{recordStart, recordBytes, countOf, recordOf};
 ghost use Rattle.model.specs.Refusals.{rule₀, verdict, forEach, byteCount};
-ghost use Rattle.model.specs.Acceptance.{lengthFits, sumRules, fieldRules, blocksRules, recordRules};
+ghost use Rattle.model.specs.Acceptance.{lengthFits, blocksRules, recordRules};
 ghost use Rattle.model.specs.Writer.{countFits};
+ghost use Rattle.crestfile.specs.BlockChecks.{blockRules, eachBlock};
 
 // 1: a crest is 512, 1024, 1536 or 2048 bytes long.
 fn check_length(len: usize) -> Outcome
@@ -25,32 +26,46 @@ fn check_length(len: usize) -> Outcome
     }
 }
 
-// 2: the sums of every block.
-fn check_sums(file: &[u8]) -> Outcome
-    requires { ⌜ length (now file) ≤ 2048 ⌝ }
-    ensures { λ o. ⌜ o ≡ verdict (forEach (sumRules (now (file .entry))) (blockCount (now (file .entry))) 0) ⌝ }
-{
-    let n = file.len() / 512;
-    let mut b = 0;
-    while b < n {
-        if !sums_agree(part_at(file, 512 * b, 512)) {
-            return refused(2, b as u32);
-        }
-        b += 1;
-    }
-    Outcome::Done
+// The checks that each block goes through: 2, its sums, and 3, its fields.
+enum BlockCheck {
+    Sums,
+    Fields,
 }
 
-// 3: the fields of every block, and zeros where nothing is in use.
-fn check_fields(file: &[u8]) -> Outcome
+// A check of block b of n.
+fn check_block(what: BlockCheck, n: usize, b: usize, block: &[u8]) -> Outcome
+    requires { ⌜ (length (now block) ≡ 512) × (b < n) × (n ≤ 4) ⌝ }
+    ensures { λ o. ⌜ o ≡ verdict (blockRules what n b (now (block .entry))) ⌝ }
+{
+    match what {
+        BlockCheck::Sums => {
+            if sums_agree(block) {
+                Outcome::Done
+            } else {
+                refused(2, b as u32)
+            }
+        }
+        BlockCheck::Fields => {
+            if fields_fit(n, b, block) {
+                Outcome::Done
+            } else {
+                refused(3, b as u32)
+            }
+        }
+    }
+}
+
+// A check of every block, from the first.
+fn check_each(what: BlockCheck, file: &[u8]) -> Outcome
     requires { ⌜ length (now file) ≤ 2048 ⌝ }
-    ensures { λ o. ⌜ o ≡ verdict (forEach (fieldRules (now (file .entry))) (blockCount (now (file .entry))) 0) ⌝ }
+    ensures { λ o. ⌜ o ≡ verdict (eachBlock what (now (file .entry))) ⌝ }
 {
     let n = file.len() / 512;
     let mut b = 0;
     while b < n {
-        if !fields_fit(n, b, part_at(file, 512 * b, 512)) {
-            return refused(3, b as u32);
+        match check_block(what, n, b, part_at(file, 512 * b, 512)) {
+            Outcome::Refused(x) => return Outcome::Refused(x),
+            Outcome::Done => {}
         }
         b += 1;
     }
@@ -65,11 +80,11 @@ pub fn check_blocks(file: &[u8]) -> Outcome
         Outcome::Refused(length) => return Outcome::Refused(length),
         Outcome::Done => {}
     }
-    match check_sums(file) {
+    match check_each(BlockCheck::Sums, file) {
         Outcome::Refused(sums) => return Outcome::Refused(sums),
         Outcome::Done => {}
     }
-    check_fields(file)
+    check_each(BlockCheck::Fields, file)
 }
 
 // How many records are in use in a file whose blocks are accepted: 15 in each block but the last.

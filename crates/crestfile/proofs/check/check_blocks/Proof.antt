@@ -8,8 +8,9 @@ use lib.ListN.{length}
 use Rattle.model.specs.declared.Outcome.the-variants.{Done}
 use Rattle.model.specs.Records.{blockCount}
 use Rattle.model.specs.Refusals.{Rule, rule₀, verdict, forEach, byteCount}
-use Rattle.model.specs.Acceptance.{lengthFits, sumRules, blocksRules}
+use Rattle.model.specs.Acceptance.{lengthFits, sumRules, fieldRules, blocksRules}
 use Rattle.model.proofs.Verdict.{done→all, verdict-after, refused-before}
+use Rattle.crestfile.specs.BlockChecks.{blockRules, eachBlock}
 use Rattle.crestfile.proofs.ForEach.{holds-one}
 use Rattle.crestfile.proofs.Crest.{fits→sized}
 use Rattle.crestfile.proofs.check.check_blocks.Statement.{statement}
@@ -45,32 +46,32 @@ returns c =
 enum-told : tie.Need-enum-told
 enum-told c = search needs
 
-check-sums-requires : tie.Need-check-sums-requires
-check-sums-requires c κs = not-longer c
+check-each-requires : tie.Need-check-each-requires
+check-each-requires c κs = not-longer c
 
 enum-known-sums : tie.Need-enum-known-sums
 enum-known-sums c = search needs
 
 returns-2 : tie.Need-returns-2
-unfolding blocksRules
+unfolding blocksRules sumRules eachBlock blockRules
 returns-2 c =
     let s = c .before .before .before in
     let file = s .before .before .before .before .before .args .file .now in
-    sym (verdict-after (lengthRules file) _ (passed (s .before)) ∙ refused-before (sums file) _ (sym (s .check-sums .ensures) ∙ c .before .sums .given .1))
+    sym (verdict-after (lengthRules file) _ (passed (s .before)) ∙ refused-before (sums file) _ (sym (s .check-each .ensures) ∙ c .before .sums .given .1))
 
 enum-told-2 : tie.Need-enum-told-2
 enum-told-2 c = search needs
 
-check-fields-requires : tie.Need-check-fields-requires
-check-fields-requires c κs = not-longer (c .before .before .before)
+check-each-requires-2 : tie.Need-check-each-requires-2
+check-each-requires-2 c κs = not-longer (c .before .before .before)
 
 returns-3 : tie.Need-returns-3
-unfolding blocksRules
+unfolding blocksRules sumRules fieldRules eachBlock blockRules
 returns-3 c =
     let s = c .before .before .before in
     let file = s .before .before .before .before .before .args .file .now in
-    c .check-fields .ensures
-    ∙ sym (verdict-after (lengthRules file) _ (passed (s .before)) ∙ verdict-after (sums file) _ (sym (s .check-sums .ensures) ∙ c .before .enum-told2 .given .1))
+    c .check-each2 .ensures
+    ∙ sym (verdict-after (lengthRules file) _ (passed (s .before)) ∙ verdict-after (sums file) _ (sym (s .check-each .ensures) ∙ c .before .enum-told2 .given .1))
 
 pub check-blocks-spec : {M : Type 1} → statement M
 check-blocks-spec =
@@ -80,9 +81,9 @@ check-blocks-spec =
     enum-known-length
     returns
     enum-told
-    check-sums-requires
+    check-each-requires
     enum-known-sums
     returns-2
     enum-told-2
-    check-fields-requires
+    check-each-requires-2
     returns-3)

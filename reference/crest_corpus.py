@@ -1,16 +1,10 @@
-#!/usr/bin/env python3
-"""Writes the corpus that the program crest_corpus checks: crest files, accepted and damaged, with number and place.
+"""Vectors for the program comparisons: crest files, accepted and damaged, with the number and place that each comes to.
 
-usage: crest_corpus.py FILE
-First how many groups follow, u32. A group: the length of a base file, u32, and its bytes; how many cases follow, u32.
-A case: length of its file, how many bytes differ from the base followed by zeros, refusal number (0 where it is
-accepted), place, u16 each; then for each differing byte its offset, u16, the byte, and a zero. All little-endian.
-No file is longer than 2,600 bytes. The same corpus each time.
+No file is longer than 2,600 bytes.
 """
 
 import random
 import struct
-import sys
 from math import isqrt
 
 import crest
@@ -18,6 +12,7 @@ import random_crests
 from crest import ARC, ENTRY, EXIT, FRAME, GAP_LIMIT, KINK_LIMIT, LINE, LONGEST, ONE, WIDEST, Element
 from plain_files import altered, file_refusal, line, lines, patched, raw_file, records_of, sealed
 from random_crests import AXES, Wish, random_elements, random_file
+from rows import FILE
 
 ROOM = 2_600
 KINDS = (LINE, ARC, ENTRY, EXIT)
@@ -52,7 +47,7 @@ def least_radius(kind, length):
 
 
 # ---------------------------------------------------------------------------
-# Groups: a base and its cases, each a file and what is expected of it: a number, or None for whatever the check says
+# Cases: a file and what is expected of it, a number, or None for whatever the check says
 
 
 def accepted_of_every_count(rng):
@@ -60,7 +55,7 @@ def accepted_of_every_count(rng):
     for count in range(1, 61):
         for wish in Wish(count, longest=rng.choice((3, 50, 2_000))), Wish(count, longest=500, at_limit=100):
             file, _ = random_file(rng, wish)
-            yield file, [(file, 0)]
+            yield file, 0
 
 
 def every_byte(rng):
@@ -74,14 +69,14 @@ def every_byte(rng):
     for at in range(508):
         place = 512 * ((at + at // 32) % 4) + at
         changes.append((altered(full, place, [changed(rng, full[place])]), None))
-    yield full, changes
+    yield from changes
     changes = [(patched(short, 512 + at, [changed(rng, short[512 + at])]), 2) for at in range(508, 512)]
     for at in range(508):
         place = 512 * (at // 32 % 2 if at < 480 else at % 2) + at
         changes.append((altered(short, place, [changed(rng, short[place])]), None))
     for at in [*range(7 * 32, 480), *range(488, 508)]:
         changes.append((altered(short, 512 + at, [rng.choice((1, 128, 255))]), 3))
-    yield short, changes
+    yield from changes
 
 
 def changed(rng, byte):
@@ -98,7 +93,7 @@ def field_damage(rng):
         for offset, size in FIELDS.items():
             for data in (bytes(size), bytes([255]) * size, rng.randbytes(size)):
                 cases.append((altered(file, record_start(record) + offset, data), None))
-    yield file, cases
+    yield from cases
 
 
 def wrong_lengths(rng):
@@ -115,9 +110,11 @@ def wrong_lengths(rng):
         if count:
             damaged = patched(beyond, rng.randrange(count), [170])
             cases.append((damaged[:count], None if good else 1))
-    yield full, cases
-    yield b"", [(bytes(count), 3 if count in (512, 1_024, 1_536, 2_048) else 1) for count in sorted(counts)]
-    yield b"", [(sealed(bytes([255]) * count), 3) for count in (512, 2_048)]
+    yield from cases
+    for count in sorted(counts):
+        yield bytes(count), 3 if count in (512, 1_024, 1_536, 2_048) else 1
+    for count in (512, 2_048):
+        yield sealed(bytes([255]) * count), 3
 
 
 def block_fields(rng):
@@ -140,14 +137,14 @@ def block_fields(rng):
             for zero in rng.sample(range(488, 508), 5):
                 cases.append((altered(file, at + zero, [rng.randint(1, 255)]), 3))
             cases.append((patched(file, at + 482, u16(16)), 2))
-        yield file, cases
+        yield from cases
     # a block that is not the last with fewer records, its other ones zero
     for count in (16, 31, 46):
         file = raw_file(lines(count))
         for block in range(count // 15):
             for used in (0, 1, 14):
                 short = crest.block_made(records_of(lines(count)[15 * block : 15 * block + used]), block)
-                yield file, [(patched(file, 512 * block, short), 3)]
+                yield patched(file, 512 * block, short), 3
 
 
 def sums(rng):
@@ -177,16 +174,16 @@ def sums(rng):
             only = patched(patched(file, i, [file[i] + 2]), j, [file[j] - 1])
             assert crest.sums(only)[1] == crest.sums(file)[1]
             cases.append((only, 2))
-    yield file, cases
+    yield from cases
     high = Element(ARC, 458_751, -1, -1, -ONE + 1, -20_000, -9_961_473)  # bytes of 255 where they can be
     c, s = random_crests.unit(high.c, high.s)
     row = [high._replace(c=c, s=s)] * 15
-    yield b"", [(raw_file(row), None), (altered(raw_file(row), 0, bytes([255]) * 508), 3)]
+    yield raw_file(row), None
+    yield altered(raw_file(row), 0, bytes([255]) * 508), 3
 
 
 def ranges(rng):
     """Length, radius, x and y of a single record of each kind at their limits, within them and beyond."""
-    base = raw_file([line()])
     cases = []
 
     def case(element, wanted):
@@ -220,7 +217,7 @@ def ranges(rng):
                 for sign in (1, -1):
                     case(Element(kind, length, 0, 0, ONE, 0, sign * size), 0 if size <= WIDEST else 6)
             case(Element(kind, length, 0, 0, ONE, 0, -(2**31)), 6)
-    yield base, cases
+    yield from cases
 
 
 def later_ranges(rng):
@@ -249,7 +246,7 @@ def later_ranges(rng):
             last = random_crests.next_element(rng, Wish(), kind, length, radius, end, tangent, True)
             if last is not None and crest.join_fault(elements[-2], last) == 0:
                 cases.append((raw_file(elements[:-1] + [last]), 0))
-        yield file, cases
+        yield from cases
 
 
 def units(rng):
@@ -271,14 +268,14 @@ def units(rng):
             cases.append((raw_file([line(c=pair[0], s=pair[1])]), wanted))
     for c, s in ((-(2**31), 0), (0, -(2**31)), (-(2**31), -(2**31)), (-(2**31), 2**31 - 1), (-(2**31), ONE)):
         cases.append((raw_file([line(c=c, s=s)]), 7))
-    yield raw_file([line()]), cases
+    yield from cases
     file = raw_file(lines(60))
     cases = []
     for record in PLACES:
         at = record_start(record)
         cases += [(altered(file, at + C, i32(c) + i32(0)), wanted) for c, wanted in ((ONE + 1, 7), (ONE - 1, 0))]
         cases += [(altered(file, at + C, i32(0) + i32(s)), 7) for s in (0, 1)]
-    yield file, cases
+    yield from cases
 
 
 def kinds(rng):
@@ -288,7 +285,8 @@ def kinds(rng):
     def number(kind):
         return 0 if kind == LINE else 6 if kind in CURVES else 5 if 5 <= kind <= 15 else 4
 
-    yield file, [(altered(file, 0, [kind]), number(kind)) for kind in range(256)]
+    for kind in range(256):
+        yield altered(file, 0, [kind]), number(kind)
     cases = []
     for record in PLACES[1:]:
         at = record_start(record)
@@ -300,7 +298,7 @@ def kinds(rng):
         # the kind is decided first, then the reserved bytes
         cases.append((altered(file, at, [rng.randint(5, 15), 1, 1, 1]), 5))
         cases.append((altered(file, at, [2, 0, 1]), 4))
-    yield file, cases
+    yield from cases
 
 
 def straight_joins(rng):
@@ -327,7 +325,7 @@ def straight_joins(rng):
             bent = (c // ONE * other, 2 * size) if s == 0 else (2 * size, s // ONE * other)
             # both: 8 before 9; a kink at an earlier join before a gap at a later one
             cases.append((altered(file, at + X, i32(x + 101) + i32(y) + i32(bent[0]) + i32(bent[1])), None))
-        yield file, cases
+        yield from cases
 
 
 def corners(limit):
@@ -359,7 +357,7 @@ def curved_joins(rng):
                     cases.append((raw_file(elements[:-1] + [bent]), 9 if size > KINK_LIMIT else 0))
                     away = bent._replace(x=bent.x + 101)
                     cases.append((raw_file(elements[:-1] + [away]), 8))
-        yield file, cases
+        yield from cases
 
 
 def kinked_exactly(element, tangent, by):
@@ -435,7 +433,7 @@ def two_faults(rng):
                     damaged = with_both(rng, file, (one, two), places)
                     if damaged is not None:
                         cases.append((damaged, one if one <= 3 or one <= 7 < two or one == two else None))
-        yield file, cases
+        yield from cases
 
 
 def with_both(rng, file, numbers, places):
@@ -470,7 +468,7 @@ def random_damage(rng):
                 at = rng.randrange(len(file))
                 damaged = patched(damaged, at, [changed(rng, damaged[at])])
             cases.append((sealed(damaged) if number % 3 else damaged, None))
-        yield file, cases
+        yield from cases
 
 
 # ---------------------------------------------------------------------------
@@ -482,31 +480,10 @@ CHAPTERS = (
 )  # fmt: skip
 
 
-def case_bytes(base, file, wanted):
-    number, place = file_refusal(file)
-    assert wanted is None or number == wanted, (wanted, number, place)
-    start = base + bytes(ROOM - len(base))
-    changes = [(at, byte) for at, byte in enumerate(file) if byte != start[at]]
-    edits = b"".join(struct.pack("<HBx", at, byte) for at, byte in changes)
-    return struct.pack("<HHHH", len(file), len(changes), number, place) + edits
-
-
-def group_bytes(base, cases):
-    return u32(len(base)) + base + u32(len(cases)) + b"".join(case_bytes(base, *case) for case in cases)
-
-
-def corpus():
+def add_rows(rows):
     rng = random.Random(5)
     for chapter in CHAPTERS:
-        for base, cases in chapter(rng):
-            yield group_bytes(base, cases)
-
-
-def main():
-    groups = list(corpus())
-    with open(sys.argv[1], "wb") as file:
-        file.write(u32(len(groups)) + b"".join(groups))
-
-
-if __name__ == "__main__":
-    main()
+        for file, wanted in chapter(rng):
+            number, place = file_refusal(file)
+            assert wanted is None or number == wanted, (wanted, number, place)
+            rows.add(FILE, rows.lay(file), number, place)

@@ -1,21 +1,13 @@
-#!/usr/bin/env python3
-"""Writes the vector file that the program element_vectors compares with: positions and directions on elements.
-
-usage: element_vectors.py FILE
-A block for each element: its record of 32 bytes, then 8 rows of 20 bytes, each a station s from the element's start,
-u32, and X, Y, Tx, Ty there, i32. All little-endian. The same file each time.
-"""
+"""Vectors for the program comparisons: positions and directions on elements, at 8 stations of each."""
 
 import random
-import struct
-import sys
 
 import crest
 import random_crests
 from crest import ARC, ENTRY, EXIT, FRAME, LINE, LONGEST, ONE, WIDEST, Element
+from rows import ELEMENT
 
-BLOCKS = 2_600
-ROW = struct.Struct("<Iiiii")
+ELEMENTS = 2_600
 LENGTHS = (1, 2, 3, 10, 999, 100_001, LONGEST - 1, LONGEST)
 
 
@@ -79,7 +71,7 @@ def elements(rng):
     edges = list(edge_directions())
     corners = [(x, y) for x in (-FRAME, FRAME) for y in (-FRAME, FRAME)]
     shapes = list(half_shapes()) + list(edge_shapes())
-    for i in range(BLOCKS):
+    for i in range(ELEMENTS):
         shape = shapes[i // 2] if i < 2 * len(shapes) else random_shape(rng)
         direction = edges[i // 2 % len(edges)] if i % 2 == 0 else random_crests.random_unit(rng)
         place = rng.choice(corners) if i % 5 == 0 else (rng.randint(-FRAME, FRAME), rng.randint(-FRAME, FRAME))
@@ -87,21 +79,13 @@ def elements(rng):
         yield Element(kind, length, *place, *direction, radius)
 
 
-def block(rng, element):
-    record = crest.record_of(element)
-    assert crest.record_fault(record) == 0, element
-    halves = (element.kind, element.length, element.radius) in set(half_shapes())
-    wanted = half_stations(element.kind, element.length) if halves else stations(rng, element.length)
-    rows = [ROW.pack(s, *crest.position(element, s), *crest.direction(element, s)) for s in wanted]
-    return record + b"".join(rows)
-
-
-def main():
+def add_rows(rows):
     rng = random.Random(4)
-    with open(sys.argv[1], "wb") as file:
-        for element in elements(rng):
-            file.write(block(rng, element))
-
-
-if __name__ == "__main__":
-    main()
+    for element in elements(rng):
+        record = crest.record_of(element)
+        assert crest.record_fault(record) == 0, element
+        part = rows.lay(record)
+        halves = (element.kind, element.length, element.radius) in set(half_shapes())
+        wanted = half_stations(element.kind, element.length) if halves else stations(rng, element.length)
+        for s in wanted:
+            rows.add(ELEMENT, part, s, *crest.position(element, s), *crest.direction(element, s))

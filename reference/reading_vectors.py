@@ -1,19 +1,7 @@
-#!/usr/bin/env python3
-"""Writes the vectors that the program reading_vectors compares with: f64 numbers as whole numbers, and run records.
-
-usage: reading_vectors.py FILE
-First how many numbers follow, u32. A number: the bits of an f64, u64; the whole number that it is, i64, where its
-size is below 2^62, else 2^62 with its sign for a larger one, and 2^63 − 1 where it is not finite or not whole.
-
-Then 32 crests, each its length, u32, and its bytes, at most 2,048; then how many histories follow, u32. A history: how
-many calls follow, u32, and the 32 bytes in which the run lies. A call: its sort, u8 (0 plane reading, 1 line reading,
-2 acknowledgement), the crest's number, u8, how many of the 32 bytes are lent as the run, u8, a zero; the returned
-value, u32; the bits of both f64 numbers, u64 each; the 32 bytes afterwards. All little-endian. The same file each time.
-"""
+"""Vectors for the program comparisons: f64 numbers as whole numbers, and run records after histories of calls."""
 
 import random
 import struct
-import sys
 from functools import cache
 from math import isqrt
 
@@ -21,6 +9,7 @@ import crest
 from crest import ARC, ENTRY, EXIT, FRAME, OFFSET_LIMIT, ONE, Element, f64_bits
 from plain_files import altered, file_refusal, line, lines, patched, raw_file
 from random_crests import Wish, half_directions, random_file, random_point
+from rows import CALL, NOWHERE, NUMBER, RUN, STORE
 
 LARGE = 2**62
 NOT_WHOLE = 2**63 - 1
@@ -30,6 +19,7 @@ NANS = (INFINITE + 1, INFINITE + 2**51, INFINITE + 2**52 - 1, INFINITE + 2**51 -
 ODD = (0.5, -0.5, 1.5, 5e-324, 2.2250738585072014e-308, 1e300, -1e300, 2.0**53, 2.0**62, 2.0**63, -(2.0**63), 2.0**64)
 
 CRESTS = 32
+SLOT = STORE // CRESTS
 HISTORIES = 500
 ROOM = 32
 PLANE, LINE_PLACE, ACKNOWLEDGE = 0, 1, 2
@@ -94,12 +84,11 @@ def whole_code(bits):
     return number if abs(number) < LARGE else LARGE if number > 0 else -LARGE
 
 
-def numbers(rng):
-    bits = [b for chapter in (each_exponent, last_places, known_numbers, any_numbers) for b in chapter(rng)]
-    assert len(bits) >= 20_000
-    yield struct.pack("<I", len(bits))
-    for pattern in bits:
-        yield struct.pack("<Qq", pattern, whole_code(pattern))
+def add_numbers(rows):
+    rng = random.Random(7)
+    for chapter in (each_exponent, last_places, known_numbers, any_numbers):
+        for bits in chapter(rng):
+            rows.add(NUMBER, NOWHERE, bits, whole_code(bits))
 
 
 # ---------------------------------------------------------------------------
@@ -193,7 +182,7 @@ def beginning(rng):
 
 
 def call(rng, files, few, state):
-    """A call with one of a few crests on the run in these bytes: the call's own bytes, and the run's afterwards."""
+    """A call with one of a few crests on the run in these bytes: the crest's number, and the row's values."""
     sort = rng.choices((PLANE, LINE_PLACE, ACKNOWLEDGE), (45, 38, 17))[0]
     number = rng.choice(few)
     lent = 24 if rng.randrange(16) else rng.choice((0, 1, 22, 23, 25, 26, 31, 32))
@@ -210,36 +199,27 @@ def call(rng, files, few, state):
         one = two = number = 0
         value, run = crest.crest_acknowledge(state[:lent])
     assert len(run) == lent
-    state = run + state[lent:]
-    return struct.pack("<BBBxIQQ", sort, number, lent, value, one, two) + state, state
+    return number, (sort, lent, value, one, two, run + state[lent:])
 
 
-def histories(rng):
+def add_histories(rows):
+    rng = random.Random(8)
     crest.check = cache(crest.check)  # the same few crests throughout
     files = list(crests(rng))
     found = [file_refusal(file)[0] for file in files]
     assert set(found) == set(range(10)), found
     assert len(files) == CRESTS
-    for file in files:
-        yield struct.pack("<I", len(file)) + file
-    yield struct.pack("<I", HISTORIES)
+    parts = [rows.lay(file, SLOT * number) for number, file in enumerate(files)]
     for number in range(HISTORIES):
         state = beginning(rng)
-        calls = 1 + number % 40
-        yield struct.pack("<I", calls) + state
+        rows.add(RUN, NOWHERE, state)
         few = rng.sample(range(len(files)), rng.randint(1, 6))
-        for _ in range(calls):
-            done, state = call(rng, files, few, state)
-            yield done
+        for _ in range(1 + number % 40):
+            crest_number, values = call(rng, files, few, state)
+            rows.add(CALL, parts[crest_number], *values)
+            state = values[-1]
 
 
-def main():
-    with open(sys.argv[1], "wb") as file:
-        for part in numbers(random.Random(7)):
-            file.write(part)
-        for part in histories(random.Random(8)):
-            file.write(part)
-
-
-if __name__ == "__main__":
-    main()
+def add_rows(rows):
+    add_numbers(rows)
+    add_histories(rows)

@@ -1,24 +1,14 @@
-#!/usr/bin/env python3
-"""Writes the vectors that the program walk_vectors compares with: points on accepted crests, and what each comes to.
-
-usage: walk_vectors.py FILE
-First how many groups follow, u32. A group: the crest file's length, u32, and its bytes; how many points follow, u32. A
-point: x, y, offset, residual, i64; refusal number (0 for an answer), station, visits, u32. All little-endian.
-The same vectors each time.
-"""
+"""Vectors for the program comparisons: points on accepted crests, and what each comes to."""
 
 import random
-import struct
-import sys
-from collections import Counter
 
 import crest
 import random_crests
 from crest import ARC, ENTRY, EXIT, FRAME, LINE, ONE
 from plain_files import line, raw_file
 from random_crests import AXES, Wish, beside, random_file, random_point
+from rows import POINT
 
-ROW = struct.Struct("<qqqqIII")
 FAR = 20_000_000  # grains: its square is the farthest D answered
 
 
@@ -231,29 +221,17 @@ CHAPTERS = (
 # The vectors
 
 
-def row(alignment, point, met):
-    answer = crest.plane_answer(alignment, *point)
-    met[answer.number] += 1
-    return ROW.pack(*point, answer.offset, answer.residual, answer.number, answer.station, answer.count)
-
-
-def groups():
+def add_rows(rows):
     rng = random.Random(6)
-    met = Counter()
+    met = set()
     for chapter in CHAPTERS:
         for file, points in chapter(rng):
             alignment = crest.check(file)
             assert not isinstance(alignment, crest.Refusal), alignment
-            rows = b"".join(row(alignment, point, met) for point in points)
-            yield struct.pack("<I", len(file)) + file + struct.pack("<I", len(points)) + rows
-    assert set(met) == {0, 11, 12, 13, 14}, met
-
-
-def main():
-    found = list(groups())
-    with open(sys.argv[1], "wb") as file:
-        file.write(struct.pack("<I", len(found)) + b"".join(found))
-
-
-if __name__ == "__main__":
-    main()
+            part = rows.lay(file)
+            for point in points:
+                answer = crest.plane_answer(alignment, *point)
+                met.add(answer.number)
+                values = answer.offset, answer.residual, answer.number, answer.station, answer.count
+                rows.add(POINT, part, *point, *values)
+    assert met == {0, 11, 12, 13, 14}, met

@@ -1,12 +1,12 @@
 -- Absolute values: of sums, differences and products; against bounds on both sides; and against squares.
-use mathlib.Core.Path.{_≡_, refl, sym, _∙_, ap, subst, subst₂}
+use mathlib.Core.Path.{_≡_, refl, sym, _∙_, ap, subst}
 use Prim.Native.Nat.{ℕ, zero, suc, _+_, _*_, _<_, _≤_, _^_}
 use native.Mathlib.Omega.{arith}
 use native.Mathlib.Decide.{decLe}
 use native.Mathlib.Nat.{mul-le-mul, pow-zero, pow-suc}
 use lib.IntN.{ℤ, pos, negsuc, negℤ, natAbs, _+ℤ_, _-ℤ_, _*ℤ_, pow, one}
 use lib.Signed.{_≤ℤ_, _<ℤ_, mag}
-use Rattle.integers.proofs.Order.{order, sum, negation, difference, parts, pos-≤, ≤-pos, <-pos}
+use Rattle.integers.proofs.Order.{order, sum, negation, difference, parts, <-pos}
 
 pub natAbs-neg : (a : ℤ) → natAbs (negℤ a) ≡ natAbs a
 natAbs-neg (pos zero) = refl
@@ -38,12 +38,6 @@ natAbs-≤ {a} {n} l h = omega (order, parts a, negation (pos n))
 pub ≤-natAbs : {a : ℤ} {n : ℕ} → natAbs a ≤ n → (negℤ (pos n) ≤ℤ a) × (a ≤ℤ pos n)
 ≤-natAbs {a} {n} h = (omega (order, parts a, negation (pos n)), omega (order, parts a))
 
-pub ≤ℤ-natAbs : (a : ℤ) → a ≤ℤ pos (natAbs a)
-≤ℤ-natAbs a = omega (order, parts a)
-
-pub 0≤-natAbs : {a : ℤ} → pos 0 ≤ℤ a → pos (natAbs a) ≡ a
-0≤-natAbs {a} h = omega (order, parts a)
-
 -- ---- squares
 
 pub square-natAbs : (a : ℤ) → a *ℤ a ≡ pos (natAbs a * natAbs a)
@@ -69,17 +63,6 @@ pub <-square : {m n : ℕ} → m * m < n * n → m < n
     go : Dec (n ≤ m) → m < n
     go (yes k) = absurd (omega (arith, square-≤ k))
     go (no k) = omega arith
-
--- |a| ≤ |b| exactly where a² ≤ b²
-pub natAbs-≤→square : (a b : ℤ) → natAbs a ≤ natAbs b → (a *ℤ a) ≤ℤ (b *ℤ b)
-natAbs-≤→square a b h = subst₂ (λ x y. x ≤ℤ y) (sym (square-natAbs a)) (sym (square-natAbs b)) (pos-≤ (square-≤ h))
-
-pub square→natAbs-≤ : (a b : ℤ) → (a *ℤ a) ≤ℤ (b *ℤ b) → natAbs a ≤ natAbs b
-square→natAbs-≤ a b h = ≤-square (≤-pos (subst₂ (λ x y. x ≤ℤ y) (square-natAbs a) (square-natAbs b) h))
-
--- the same against a natural number: |a| ≤ n exactly where a² ≤ n²
-pub square→natAbs-≤ℕ : (a : ℤ) (n : ℕ) → (a *ℤ a) ≤ℤ pos (n * n) → natAbs a ≤ n
-square→natAbs-≤ℕ a n h = square→natAbs-≤ a (pos n) h
 
 pub square→natAbs-<ℕ : (a : ℤ) (n : ℕ) → (a *ℤ a) <ℤ pos (n * n) → natAbs a < n
 square→natAbs-<ℕ a n h = <-square (<-pos (subst (λ x. x <ℤ pos (n * n)) (square-natAbs a) h))

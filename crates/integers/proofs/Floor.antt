@@ -2,10 +2,10 @@
 -- and so is the machine's division, less 1 where the remainder is negative.
 use mathlib.Core.Path.{_≡_, refl, sym, _∙_, ap, subst}
 use mathlib.Core.Logic.{⊎-elim}
-use Prim.Native.Nat.{ℕ, suc, _+_, _*_, _/_, _%_, _<_, _≤_, suc-le-suc}
+use Prim.Native.Nat.{ℕ, suc, _*_, _/_, _%_, _<_, _≤_}
 use native.Mathlib.Omega.{arith}
-use native.Mathlib.Nat.{mul-one, mul-suc, mul-pos, div-add-mod, mod-lt, div-le-self, div-mul-le-self, le-div-iff-mul-le, div-div-eq-div-mul}
-use lib.IntN.{ℤ, pos, negsuc, negℤ, natAbs, _+ℤ_, _-ℤ_, _*ℤ_, +ℤ-idr, negℤ-+ℤ, -ℤ-+ℤ-cancel}
+use native.Mathlib.Nat.{mul-one, mul-suc, mul-pos, div-add-mod, mod-lt, div-le-self}
+use lib.IntN.{ℤ, pos, negsuc, negℤ, _+ℤ_, _-ℤ_, _*ℤ_, negℤ-+ℤ, -ℤ-+ℤ-cancel}
 use lib.Signed.{_≤ℤ_, _<ℤ_, clashℤ, shrZ, quotZ, remZ, mag, mag-shr}
 use mir.Syntax.{Width}
 use mir.Val.{SFits, toZ, ofZ}
@@ -75,29 +75,6 @@ module _ {d : ℕ} (h : 0 < d) where
   pub floor-mono : {m n : ℤ} → m ≤ℤ n → floorDiv m d ≤ℤ floorDiv n d
   floor-mono {m} l = ≤-floor (≤ℤ-trans (floor-low m) l)
 
-  pub floor-multiple : (k : ℤ) → floorDiv (pos d *ℤ k) d ≡ k
-  floor-multiple k = sym (floor-unique (with-remainder (+ℤ-idr (pos d *ℤ k)) (0≤-pos 0) (pos-< h)))
-
-  pub floor-add-multiple : (n k : ℤ) → floorDiv (n +ℤ pos d *ℤ k) d ≡ floorDiv n d +ℤ k
-  floor-add-multiple n k =
-      let q = floorDiv n d in
-      let e = *ℤ-add (pos d) q k in
-      let f = next-multiple d q in
-      let s = sum (pos d *ℤ q) (pos d *ℤ k) in
-      let t = sum n (pos d *ℤ k) in
-      sym
-      (floor-unique
-      (from-bounds
-      (omega (order, floor-low n, e, s, t))
-      (omega (order, floor-high n, e, f, s, t, sum (pos d *ℤ (q +ℤ k)) (pos d), sum (pos d *ℤ q) (pos d)))))
-
-  pub natAbs-floor-quotient : (n : ℤ) → natAbs (floorDiv n d) ≤ natAbs n / d + 1
-  unfolding floorDiv
-  natAbs-floor-quotient (pos n) = omega arith
-  natAbs-floor-quotient (negsuc n) =
-      let k : n / d ≤ suc n / d = le-div-iff-mul-le h .1 (omega (arith, div-mul-le-self n d)) in
-      omega arith
-
 pub floor-scale : {k d : ℕ} → 0 < k → 0 < d → (n : ℤ) → floorDiv (pos k *ℤ n) (k * d) ≡ floorDiv n d
 floor-scale {k} {d} l h n =
     let assoc : (x : ℤ) → pos k *ℤ (pos d *ℤ x) ≡ pos (k * d) *ℤ x = λ x. sym (*ℤ-assoc (pos k) (pos d) x) in
@@ -107,29 +84,6 @@ floor-scale {k} {d} l h n =
       low = subst (λ x. x ≤ℤ (pos k *ℤ n)) (assoc (floorDiv n d)) (≤ℤ-mul-left (pos k) (0≤-pos k) (floor-low h n));
       high = subst (λ x. (pos k *ℤ n) <ℤ x) (assoc (floorDiv n d +ℤ pos 1)) (<ℤ-mul l (floor-high h n));
     }))
-
--- ---- laws for every divisor
-
-module _ (d : ℕ) where
-  pub floor-floor : (n : ℤ) (e : ℕ) → floorDiv (floorDiv n d) e ≡ floorDiv n (d * e)
-  unfolding floorDiv
-  floor-floor (pos n) e = ap pos (div-div-eq-div-mul n d e)
-  floor-floor (negsuc n) e = ap negsuc (div-div-eq-div-mul n d e)
-
-  pub 0≤-floor : {n : ℤ} → pos 0 ≤ℤ n → pos 0 ≤ℤ floorDiv n d
-  unfolding floorDiv
-  0≤-floor {n = pos n} h = 0≤-pos (n / d)
-  0≤-floor {n = negsuc n} h = absurd (h .le)
-
-  pub floor-<0 : {n : ℤ} → n <ℤ pos 0 → floorDiv n d <ℤ pos 0
-  unfolding floorDiv
-  floor-<0 {n = pos n} h = absurd (omega order)
-  floor-<0 {n = negsuc n} h = record { lt = tt }
-
-  pub natAbs-floor : (n : ℤ) → natAbs (floorDiv n d) ≤ natAbs n
-  unfolding floorDiv
-  natAbs-floor (pos n) = div-le-self n d
-  natAbs-floor (negsuc n) = suc-le-suc (div-le-self n d)
 
 -- ---- the machine's division, which rounds toward zero
 

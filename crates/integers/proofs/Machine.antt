@@ -9,7 +9,7 @@ use mathlib.Core.List.{List}
 use Prim.Native.Nat.{ℕ, _^_}
 use lib.Dec.{T, ltb}
 use lib.IntN.{ℤ, pos, negsuc, negℤ, _+ℤ_, _*ℤ_}
-use lib.Signed.{ltZ, leZ, _<ℤ_, _≤ℤ_, ltZ-no, leZ-yes, ltZ-yes}
+use lib.Signed.{ltZ, _<ℤ_, _≤ℤ_, ltZ-no, ltZ-yes}
 use mir.Syntax.{Width}
 use mir.Val.{SFits, hbits, toZ, ofZ}
 use mir.Facts.{toZ-ofZ, and-yes}
@@ -45,10 +45,6 @@ both-mean f p q t = let g = and-yes (p .good) (q .good) t in ap₂ f (p .means (
 
 abbrev pub m-cast : (w : Width) {Γ : Env} {a : ℤ} → Machine Γ a → Machine Γ (toZ w (ofZ w a))
 m-cast w {Γ} d = record { expr = d .expr; good = d .good && below w Γ (d .expr); means = cast-means w d }
-
--- an argument or a result of the whole range of its width, which is known to fit: listed as `m-known (c .fits .x)`
-abbrev pub m-known : {w : Width} {Γ : Env} {a : ℤ} → SFits w a → Machine Γ a → Machine Γ (toZ w (ofZ w a))
-m-known f d = record { expr = d .expr; good = d .good; means = λ t. d .means t ∙ sym (toZ-ofZ f) }
 
 abbrev pub m-add : {Γ : Env} {a b : ℤ} → Machine Γ a → Machine Γ b → Machine Γ (a +ℤ b)
 m-add p q = record { expr = p .expr ⊕ q .expr; good = p .good && q .good; means = both-mean _+ℤ_ p q }
@@ -90,6 +86,3 @@ test-lt f g e = subst₂ (λ x y. x <ℤ y) (toZ-ofZ f) (toZ-ofZ g) (ltZ-yes (su
 
 pub test-not-lt : {w : Width} {x y : ℤ} → SFits w x → SFits w y → ltZ (toZ w (ofZ w x)) (toZ w (ofZ w y)) ≡ false → y ≤ℤ x
 test-not-lt f g e = subst₂ (λ x y. y ≤ℤ x) (toZ-ofZ f) (toZ-ofZ g) (ltZ-no (subst (λ v. T (not v)) (sym e) tt))
-
-pub test-le : {w : Width} {x y : ℤ} → SFits w x → SFits w y → leZ (toZ w (ofZ w x)) (toZ w (ofZ w y)) ≡ true → x ≤ℤ y
-test-le f g e = subst₂ (λ x y. x ≤ℤ y) (toZ-ofZ f) (toZ-ofZ g) (leZ-yes (subst T (sym e) tt))

@@ -116,12 +116,6 @@ pub ≤ℤ-<ℤ-trans : {a b c : ℤ} → a ≤ℤ b → b <ℤ c → a <ℤ c
 pub <ℤ-trans : {a b c : ℤ} → a <ℤ b → b <ℤ c → a <ℤ c
 <ℤ-trans h k = omega order
 
-pub <ℤ→≤ℤ : {a b : ℤ} → a <ℤ b → a ≤ℤ b
-<ℤ→≤ℤ h = omega order
-
-pub ≡→≤ℤ : {a b : ℤ} → a ≡ b → a ≤ℤ b
-≡→≤ℤ e = omega order
-
 pub ≤ℤ-antisym : {a b : ℤ} → a ≤ℤ b → b ≤ℤ a → a ≡ b
 ≤ℤ-antisym h k = omega order
 
@@ -160,12 +154,6 @@ sub-0≤ {a} {b} h = omega (order, difference b a)
 pub ≤ℤ-add : {a b c d : ℤ} → a ≤ℤ b → c ≤ℤ d → (a +ℤ c) ≤ℤ (b +ℤ d)
 ≤ℤ-add {a} {b} {c} {d} h k = omega (order, sum a c, sum b d)
 
-pub ≤ℤ-neg : {a b : ℤ} → a ≤ℤ b → negℤ b ≤ℤ negℤ a
-≤ℤ-neg {a} {b} h = omega (order, negation a, negation b)
-
-pub 0≤-add : {a b : ℤ} → pos 0 ≤ℤ a → pos 0 ≤ℤ b → pos 0 ≤ℤ (a +ℤ b)
-0≤-add {a} {b} h k = omega (order, sum a b)
-
 pub 0≤-mul : {a b : ℤ} → pos 0 ≤ℤ a → pos 0 ≤ℤ b → pos 0 ≤ℤ (a *ℤ b)
 0≤-mul {a = pos a} {b = pos b} h k = 0≤-pos (a * b)
 0≤-mul {a = pos a} {b = negsuc b} h k = absurd (k .le)
@@ -188,10 +176,3 @@ pub ≤ℤ-mul : {a b c d : ℤ} → pos 0 ≤ℤ a → pos 0 ≤ℤ d → a ≤
 -- A certificate: b − a is a number k that is known not to be negative.
 pub ≤ℤ-by : {a b k : ℤ} → pos 0 ≤ℤ k → b -ℤ a ≡ k → a ≤ℤ b
 ≤ℤ-by {a} {b} {k} h e = omega (order, difference b a, e)
-
-pub <ℤ-by : {a b k : ℤ} → pos 0 ≤ℤ k → b -ℤ a ≡ k +ℤ pos 1 → a <ℤ b
-<ℤ-by {a} {b} {k} h e = omega (order, difference b a, sum k (pos 1), e)
-
--- below one more is at most
-pub <ℤ-suc : {a b : ℤ} → a <ℤ (b +ℤ pos 1) → a ≤ℤ b
-<ℤ-suc {a} {b} h = omega (order, sum b (pos 1))

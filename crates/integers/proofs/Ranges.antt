@@ -4,7 +4,7 @@
 use mathlib.Core.Path.{_≡_, refl, sym, _∙_, ap, subst}
 use mathlib.Core.List.{List, [], _∷_}
 use Prim.Native.Nat.{ℕ, zero, suc, _+_, _*_, _<_, _≤_, _^_, zero-le}
-use native.Mathlib.Nat.{mul-le-mul, le-trans, le-refl, le-of-eq, lt-of-le-of-lt, add-le-add, pow-zero, pow-suc}
+use native.Mathlib.Nat.{mul-le-mul, le-trans, le-refl, le-of-eq, lt-of-le-of-lt, add-le-add, pow-le-pow-left}
 use lib.Dec.{T, leb, ltb, leb→le, ltb→lt}
 use lib.IntN.{ℤ, pos, natAbs}
 use mir.Val.{SFits, hbits}
@@ -43,10 +43,6 @@ lookup-within (x ∷ ρ) [] w i = absurd w
 lookup-within (x ∷ ρ) (b ∷ β) w zero = w .0
 lookup-within (x ∷ ρ) (b ∷ β) w (suc i) = lookup-within ρ β (w .1) i
 
-pow-≤ : {m n : ℕ} → m ≤ n → (k : ℕ) → m ^ k ≤ n ^ k
-pow-≤ {m} {n} h zero = le-of-eq (pow-zero m ∙ sym (pow-zero n))
-pow-≤ {m} {n} h (suc k) = le-trans (le-of-eq (pow-suc m k)) (le-trans (mul-le-mul (pow-≤ h k) h) (le-of-eq (sym (pow-suc n k))))
-
 module _ (ρ : List ℤ) (β : List ℕ) (w : Within ρ β) where
   pub value-within : (e : Expr) → natAbs (eval ρ e) ≤ bound β e
   value-within (var i) = lookup-within ρ β w i
@@ -55,7 +51,7 @@ module _ (ρ : List ℤ) (β : List ℕ) (w : Within ρ β) where
   value-within (a ⊖ b) = le-trans (natAbs-- (eval ρ a) (eval ρ b)) (add-le-add (value-within a) (value-within b))
   value-within (a ⊗ b) = le-trans (le-of-eq (natAbs-* (eval ρ a) (eval ρ b))) (mul-le-mul (value-within a) (value-within b))
   value-within (neg a) = le-trans (le-of-eq (natAbs-neg (eval ρ a))) (value-within a)
-  value-within (a ↑ k) = le-trans (le-of-eq (natAbs-pow (eval ρ a) k)) (pow-≤ (value-within a) k)
+  value-within (a ↑ k) = le-trans (le-of-eq (natAbs-pow (eval ρ a) k)) (pow-le-pow-left (value-within a) k)
 
 -- |a| ≤ K
 pub abs-by : {ρ : List ℤ} (β : List ℕ) (a : ℤ) {K : ℕ} → Within ρ β → (d : Written ρ a) → T (leb (bound β (d .expr)) K) → natAbs a ≤ K

@@ -4,12 +4,12 @@ use mathlib.Core.Path.{_≡_, refl, sym, _∙_, subst}
 use mathlib.Core.Bool.{Bool, true, false}
 use Prim.Native.Nat.{ℕ, zero, suc, _+_, _*_, _/_, _≤_, _<_}
 use native.Mathlib.Omega.{arith}
-use native.Mathlib.Nat.{mul-add, add-mul, mul-assoc, mul-left-comm, le-refl, le-trans, lt-of-le-of-lt, lt-of-lt-of-le}
+use native.Mathlib.Nat.{mul-add, add-mul, mul-assoc, mul-left-comm, le-refl, lt-of-le-of-lt}
 use native.Mathlib.Numerals.{add-one}
 use lib.Dec.{leb}
 use borrow.Author.Tests.{leb-true, leb-false}
 use Rattle.integers.specs.Root.{IsRoot, oneMoreIf, nextDigit, rootWithin, root}
-use Rattle.integers.proofs.Abs.{square-≤, <-square}
+use Rattle.integers.proofs.Abs.{<-square}
 
 pub square-next : (r : ℕ) → (r + 1) * (r + 1) ≡ r * r + 2 * r + 1
 square-next r = omega (arith, add-mul r 1 (r + 1), mul-add r r 1)
@@ -50,16 +50,10 @@ pub root-is : (n : ℕ) → IsRoot n (root n)
 unfolding root
 root-is n = within-is n n (le-refl n)
 
--- ---- the root against another number: m ≤ root n exactly where m² ≤ n, and root n < m exactly where n < m²
-
-pub ≤-root→square : {m n : ℕ} → m ≤ root n → m * m ≤ n
-≤-root→square {n = n} h = le-trans (square-≤ h) (root-is n .low)
+-- ---- the root against another number: m ≤ root n where m² ≤ n, and root n < m where n < m²
 
 pub square→≤-root : {m n : ℕ} → m * m ≤ n → m ≤ root n
 square→≤-root {m} {n} h = let k : m < root n + 1 = <-square (lt-of-le-of-lt h (root-is n .high)) in omega arith
-
-pub root-<→square : {m n : ℕ} → root n < m → n < m * m
-root-<→square {m} {n} h = lt-of-lt-of-le (root-is n .high) (square-≤ {m = root n + 1} {n = m} (omega arith))
 
 pub square→root-< : {m n : ℕ} → n < m * m → root n < m
 square→root-< {n = n} h = <-square (lt-of-le-of-lt (root-is n .low) h)
@@ -74,9 +68,3 @@ is-root {n} {r} i =
 
 pub root-unique : {n q r : ℕ} → IsRoot n q → IsRoot n r → q ≡ r
 root-unique i j = is-root i ∙ sym (is-root j)
-
-pub root-mono : {m n : ℕ} → m ≤ n → root m ≤ root n
-root-mono {m} h = square→≤-root (le-trans (root-is m .low) h)
-
-pub root-square : (m : ℕ) → root (m * m) ≡ m
-root-square m = sym (is-root (record { low = le-refl (m * m); high = omega (arith, square-next m) }))

@@ -8,7 +8,6 @@ use native.Mathlib.Nat.{pow-zero, pow-suc}
 use lib.Dec.{T, ltb}
 use mathlib.Core.Bool.{Bool}
 use lib.IntN.{ℤ, pos, negsuc, negℤ, natAbs, _+ℤ_, _*ℤ_, pow, one}
-use Rattle.integers.proofs.Ring.{+ℤ-cancel-right}
 use Rattle.integers.proofs.Identity.{Expr, lookup, var, lit, _⊕_, _⊖_, _⊗_, _↑_, neg, eval, isZero, norm, same-value}
 
 -- The expression is a field and no index, so that `search` can find it.
@@ -82,7 +81,3 @@ identity {ρ} p q t = sym (p .means) ∙ same-value ρ (p .expr) (q .expr) t ∙
 -- the same over ℕ, by way of ℤ
 pub identityℕ : {ρ : List ℤ} {a b : ℕ} (p : Written ρ (pos a)) (q : Written ρ (pos b)) → T (isZero (norm (p .expr ⊖ q .expr))) → a ≡ b
 identityℕ p q t = ap natAbs (identity p q t)
-
--- a ≡ b where u ≡ v is known: a + k · v ≡ b + k · u holds by computation
-pub identity-given : {a b u v : ℤ} (k : ℤ) → u ≡ v → a +ℤ k *ℤ v ≡ b +ℤ k *ℤ u → a ≡ b
-identity-given {a} {b} {u} {v} k h e = +ℤ-cancel-right (k *ℤ v) (e ∙ ap (λ x. b +ℤ k *ℤ x) h)

@@ -5,8 +5,8 @@ use mathlib.Core.List.{[], _∷_}
 use Prim.Native.Nat.{ℕ, _+_, _*_, _^_, _≤_, _<_}
 use native.Mathlib.Omega.{arith}
 use native.Mathlib.Nat.{mul-le-mul-left, mul-pos}
-use lib.IntN.{ℤ, pos, natAbs, _-ℤ_, _*ℤ_}
-use Rattle.integers.proofs.Ring.{one-*ℤ, sub-self}
+use lib.IntN.{ℤ, pos, natAbs, _-ℤ_, _*ℤ_, +ℤ-invr}
+use Rattle.integers.proofs.Ring.{one-*ℤ}
 use Rattle.integers.proofs.Abs.{natAbs-*}
 use Rattle.integers.proofs.Identity.{var, _⊖_, _⊗_}
 use Rattle.integers.proofs.Written.{writing, identityℕ}
@@ -63,7 +63,7 @@ width-error q n m t w small h₀ h₁ =
     error-by (2 ^ 29) (4′ ⊗ (q′ ⊗ w′ ⊖ n′ ⊗ m′)) (plain ρ q′ ⊠ δ₁ ⊞ plain ρ n′ ⊠ δ₀) (omega arith) tt (omega (arith, mul-le-mul-left q small))
 
 pub once-exact : (x : ℤ) → natAbs (pos 1 *ℤ x -ℤ x) ≡ 0
-once-exact x = ap natAbs (ap (λ y. y -ℤ x) (one-*ℤ x) ∙ sub-self x)
+once-exact x = ap natAbs (ap (λ y. y -ℤ x) (one-*ℤ x) ∙ +ℤ-invr x)
 
 -- near(x·G, k·ONE) is within 2 of X·S/E, where x is close enough to X/y
 near-product : (k y : ℕ) (x X : ℤ) {G S : ℤ} {D E : ℕ} → Close G S D → 0 < k → E ≡ k * y * D →

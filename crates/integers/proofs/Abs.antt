@@ -3,7 +3,7 @@ use mathlib.Core.Path.{_≡_, refl, sym, _∙_, ap, subst}
 use Prim.Native.Nat.{ℕ, zero, suc, _+_, _*_, _<_, _≤_, _^_}
 use native.Mathlib.Omega.{arith}
 use native.Mathlib.Decide.{decLe}
-use native.Mathlib.Nat.{mul-le-mul, pow-zero, pow-suc}
+use native.Mathlib.Nat.{mul-le-mul, suc-mul, mul-suc, pow-zero, pow-suc}
 use lib.IntN.{ℤ, pos, negsuc, negℤ, natAbs, _+ℤ_, _-ℤ_, _*ℤ_, pow, one}
 use lib.Signed.{_≤ℤ_, _<ℤ_, mag}
 use Rattle.integers.proofs.Order.{order, sum, negation, difference, parts, <-pos}
@@ -48,7 +48,7 @@ pub square-≤ : {m n : ℕ} → m ≤ n → m * m ≤ n * n
 square-≤ h = mul-le-mul h h
 
 pub square-< : {m n : ℕ} → m < n → m * m < n * n
-square-< {m} {n} h = omega (arith, mul-le-mul h h, native.Mathlib.Nat.suc-mul m (suc m), native.Mathlib.Nat.mul-suc m m)
+square-< {m} {n} h = omega (arith, mul-le-mul h h, suc-mul m (suc m), mul-suc m m)
 
 pub ≤-square : {m n : ℕ} → m * m ≤ n * n → m ≤ n
 ≤-square {m} {n} h = go (decLe m n)

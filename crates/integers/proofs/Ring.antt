@@ -3,7 +3,7 @@ use mathlib.Core.Path.{_≡_, sym, _∙_, ap, ap₂}
 use Prim.Native.Nat.{zero, suc}
 use lib.IntN.{ℤ, pos, negsuc, sucℤ, predℤ, negℤ, one, _+ℤ_, _-ℤ_, _*ℤ_, sucℤ-+ℤ, predℤ-+ℤ, +ℤ-idl, +ℤ-assoc, +ℤ-comm, +ℤ-invl, +ℤ-invr, +ℤ-negℤ-cancel, zero-*ℤ, sucℤ-*ℤ, predℤ-*ℤ, *ℤ-comm, *ℤ-one}
 
-pub ℤ-steps : (P : ℤ → Type 0) → P (pos zero) → ((k : ℤ) → P k → P (sucℤ k)) → ((k : ℤ) → P k → P (predℤ k)) → (k : ℤ) → P k
+ℤ-steps : (P : ℤ → Type 0) → P (pos zero) → ((k : ℤ) → P k → P (sucℤ k)) → ((k : ℤ) → P k → P (predℤ k)) → (k : ℤ) → P k
 ℤ-steps P z s p (pos zero) = z
 ℤ-steps P z s p (pos (suc n)) = s (pos n) (ℤ-steps P z s p (pos n))
 ℤ-steps P z s p (negsuc zero) = p (pos zero) z
@@ -25,9 +25,6 @@ pub +ℤ-cancel-right : {a b : ℤ} (c : ℤ) → a +ℤ c ≡ b +ℤ c → a �
 -- what adds up to 0 with a is −a
 pub neg-unique : (x a : ℤ) → x +ℤ a ≡ pos zero → x ≡ negℤ a
 neg-unique x a h = +ℤ-cancel-right a (h ∙ sym (+ℤ-invl a))
-
-pub sub-self : (a : ℤ) → a -ℤ a ≡ pos zero
-sub-self a = +ℤ-invr a
 
 pub sub-zero→≡ : {a b : ℤ} → a -ℤ b ≡ pos zero → a ≡ b
 sub-zero→≡ {a} {b} h = +ℤ-cancel-right (negℤ b) (h ∙ sym (+ℤ-invr b))

@@ -1,6 +1,6 @@
 -- The whole square root: the number whose square is at most n while the square of one more is above n. A digit of base 4 keeps that, so `root` has it;
 -- and squares grow, so no other number has it.
-use mathlib.Core.Path.{_≡_, refl, sym, _∙_, subst}
+use mathlib.Core.Path.{_≡_, refl, subst}
 use mathlib.Core.Bool.{Bool, true, false}
 use Prim.Native.Nat.{ℕ, zero, suc, _+_, _*_, _/_, _≤_, _<_}
 use native.Mathlib.Omega.{arith}
@@ -60,11 +60,8 @@ square→root-< {n = n} h = <-square (lt-of-le-of-lt (root-is n .low) h)
 
 -- ---- no other number is the root
 
-pub is-root : {n r : ℕ} → IsRoot n r → r ≡ root n
-is-root {n} {r} i =
+pub root-unique : {n r : ℕ} → IsRoot n r → r ≡ root n
+root-unique {n} {r} i =
     let a : r ≤ root n = square→≤-root (i .low) in
     let b : root n < r + 1 = square→root-< (i .high) in
     omega arith
-
-pub root-unique : {n q r : ℕ} → IsRoot n q → IsRoot n r → q ≡ r
-root-unique i j = is-root i ∙ sym (is-root j)

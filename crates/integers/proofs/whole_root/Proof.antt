@@ -5,7 +5,7 @@ use native.Mathlib.Omega.{arith}
 use mir.Syntax.{w64}
 use mir.Val.{Fits}
 use Rattle.integers.proofs.Abs.{square-≤, <-square}
-use Rattle.integers.proofs.Root.{square-next, is-root}
+use Rattle.integers.proofs.Root.{square-next, root-unique}
 use Rattle.integers.proofs.whole_root.Statement.{statement}
 use Rattle.integers.proofs.whole_root.Tie as tie
 use borrow.Author.Needs.{needs}
@@ -73,7 +73,7 @@ loop2-again c =
 returns : tie.Need-returns Inv-loop μ-loop Inv-loop2 μ-loop2
 returns c =
     let r : ℕ = c .before .loop2 .r in
-    (is-root (record { low = c .before .loop2 .inv .0; high = omega (arith, square-next r) }), c .before .loop2 .inv .1)
+    (root-unique (record { low = c .before .loop2 .inv .0; high = omega (arith, square-next r) }), c .before .loop2 .inv .1)
 
 pub whole-root-spec : {M : Type 1} → statement M
 whole-root-spec =

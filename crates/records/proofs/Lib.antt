@@ -1,6 +1,5 @@
 -- The laws that belong to no one function.
 pub mod Tests
-pub mod Magnitudes
 pub mod Unit
 pub mod Rest
 pub mod Frame

@@ -1,10 +1,9 @@
--- `fields::signed` meets its contract: the complement of a number from 2^31 up is its magnitude less one.
+-- `fields::signed` meets its contract: the complement of the complement is the number itself.
 use borrow.Author.Needs.{needs}
-use mathlib.Core.Path.{_≡_, ap}
-use Prim.Native.Nat.{_-_}
-use native.Mathlib.Omega.{arith}
+use mathlib.Core.Path.{ap}
 use mir.Syntax.{w32}
 use mir.Val.{toZ}
+use Rattle.fields.proofs.Signs.{complement-twice}
 use Rattle.fields.proofs.signed.Statement.{statement}
 use Rattle.fields.proofs.signed.Tie as tie
 
@@ -18,9 +17,7 @@ returns : tie.Need-returns
 returns c = search needs
 
 returns-2 : tie.Need-returns-2
-returns-2 c =
-    let h : 4294967295 - (4294967295 - c .before .args .bits) ≡ c .before .args .bits = omega arith in
-    ap (toZ w32) h
+returns-2 c = ap (toZ w32) (complement-twice w32 (c .before .fits .bits))
 
 pub signed-spec : {M : Type 1} → statement M
 signed-spec = tie.close (tie.spec cast-result cast-result-2 returns returns-2)

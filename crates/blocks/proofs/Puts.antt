@@ -1,12 +1,12 @@
 -- Bytes written one after another are written as one: what is put at the end of what was put before makes one row with it.
-use Prim.Native.Nat.{ℕ, zero, suc, _+_, _-_, _≤_, _<_}
+use Prim.Native.Nat.{ℕ, suc, _+_, _-_, _≤_, _<_}
 use mathlib.Core.List.{List, [], _∷_, _++_, append-assoc, append-nil}
-use mathlib.Core.Path.{_≡_, refl, sym, ap, _∙_}
+use mathlib.Core.Path.{_≡_, sym, ap, _∙_}
 use native.Mathlib.Nat.{add-zero, zero-add}
 use native.Mathlib.Numerals.{add-one}
 use native.Mathlib.Omega.{arith}
 use borrow.Rule.Slice.PartMut.{putMid}
-use lib.ListN.{length, take, drop, set, replicate, length-append, length-take, length-drop, length-replicate, take-append-drop, drop-of-length-le}
+use lib.ListN.{length, take, drop, set, replicate, length-append, length-take, length-drop, length-replicate, replicate-append-replicate, take-append-drop, drop-of-length-le}
 use lib.Seq.{take-at, drop-drop, drop-append-add, set-split, take-suc, length-take-le}
 use Rattle.model.specs.Records.{byteAt, put}
 
@@ -51,7 +51,7 @@ lent-back l at n left h =
 
 -- ---- one byte more
 
-pub store-put : (l : List ℕ) (at k : ℕ) (p : List ℕ) (x : ℕ) → at + length p ≡ k → k < length l → set (put l at p) k x ≡ put l at (p ++ (x ∷ []))
+store-put : (l : List ℕ) (at k : ℕ) (p : List ℕ) (x : ℕ) → at + length p ≡ k → k < length l → set (put l at p) k x ≡ put l at (p ++ (x ∷ []))
 unfolding put
 store-put l at k p x e h =
     let n : k < length (put l at p) = rw (put-length l at p (omega arith)) h in
@@ -64,12 +64,8 @@ copied-more l at bytes i h fits =
     store-put l at (at + i) (take i bytes) (byteAt bytes i) (omega arith) (omega arith)
     ∙ ap (λ p. put l at p) (rw add-one (sym (take-suc bytes i 0 h)))
 
-zeros-more : (n : ℕ) → _≡_ {A = List ℕ} (replicate n 0 ++ (0 ∷ [])) (replicate (suc n) 0)
-zeros-more zero = refl
-zeros-more (suc n) = ap (λ l. 0 ∷ l) (zeros-more n)
-
 pub cleared-more : (l : List ℕ) (at i : ℕ) → at + i < length l → set (put l at (replicate i 0)) (at + i) 0 ≡ put l at (replicate (i + 1) 0)
 cleared-more l at i fits =
     let n = length-replicate {A = ℕ} i 0 in
     store-put l at (at + i) (replicate i 0) 0 (omega arith) fits
-    ∙ ap (λ p. put l at p) (rw add-one (zeros-more i))
+    ∙ ap (λ p. put l at p) (replicate-append-replicate i 1 0)

@@ -12,7 +12,7 @@ use Rattle.model.specs.declared.Reading.{Reading}
 use Rattle.model.specs.declared.Run.{Run}
 use Rattle.model.specs.declared.Reading.the-variants.{PlanePoint}
 use Rattle.model.specs.declared.Outcome.the-variants.{Done}
-use Rattle.model.specs.Records.{byteAt, u32At}
+use Rattle.model.specs.Records.{u32At}
 use Rattle.model.specs.Refusals.{refusal, verdict, orRefused}
 use Rattle.model.specs.Acceptance.{checked, crestRules, crestElements}
 use Rattle.model.specs.Answers.{locatedOn}
@@ -122,12 +122,10 @@ unfolding lastLine firstWords
 first-none run h = rw h
 
 -- "a shorter tail is ignored"
-byte-before : (l t : List ℕ) (i : ℕ) → i < length l → byteAt (l ++ t) i ≡ byteAt l i
-byte-before l t i h = List·getD-append l t 0 i h
-
 u32-before : (l t : List ℕ) (i : ℕ) → i + 4 ≤ length l → u32At (l ++ t) i ≡ u32At l i
 u32-before l t i h =
-    rw (byte-before l t i (omega arith), byte-before l t (i + 1) (omega arith), byte-before l t (i + 2) (omega arith), byte-before l t (i + 3) (omega arith))
+    let before = List·getD-append l t 0 in
+    rw (before i (omega arith), before (i + 1) (omega arith), before (i + 2) (omega arith), before (i + 3) (omega arith))
 
 reading-before : (l t : List ℕ) → 16 ≤ length l → readingAt (l ++ t) ≡ readingAt l
 unfolding readingAt

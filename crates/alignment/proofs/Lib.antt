@@ -1,4 +1,3 @@
--- The joins.
 -- An alignment from bytes.
 pub mod AcceptGathered
 pub mod AcceptRecords

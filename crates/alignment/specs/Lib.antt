@@ -1,3 +1,4 @@
+-- What the contracts of this crate cite.
 pub mod Gathered
 pub mod Accepts
 pub mod Lent

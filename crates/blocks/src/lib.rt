@@ -24,6 +24,7 @@ struct Sums {
     b: u16,
 }
 
+// A byte, wide.
 fn wide(x: u8) -> usize
     ensures { λ r. ⌜ r ≡ x ⌝ }
     ensures { λ r. ⌜ r < 256 ⌝ }

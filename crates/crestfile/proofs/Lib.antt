@@ -1,4 +1,4 @@
--- The crest file: what is written reads back, what is read is written again, and a changed byte is seen.
+-- The crest file: the rules of its blocks and records, and what a file that they accept is.
 pub mod Seams
 pub mod ForEach
 pub mod Blocks

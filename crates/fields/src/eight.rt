@@ -16,6 +16,7 @@ fn wide(x: u32) -> u64
     x as u64
 }
 
+// The u64 in the eight bytes from `at` on.
 pub fn u64_at(s: &[u8], at: usize) -> u64
     requires { ⌜ at + 8 ≤ length (now s) ⌝ }
     ensures { λ r. ⌜ r ≡ u32At (now (s .entry)) at + 4294967296 * u32At (now (s .entry)) (at + 4) ⌝ }

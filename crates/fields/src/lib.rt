@@ -17,6 +17,7 @@ fn wide(x: u8) -> u32
     x as u32
 }
 
+// The u16 in the two bytes from `at` on.
 pub fn u16_at(s: &[u8], at: usize) -> u16
     requires { ⌜ at + 2 ≤ length (now s) ⌝ }
     ensures { λ r. ⌜ r ≡ u16At (now (s .entry)) at ⌝ }
@@ -24,6 +25,7 @@ pub fn u16_at(s: &[u8], at: usize) -> u16
     (wide(s[at]) + 256 * wide(s[at + 1])) as u16
 }
 
+// The u32 in the four bytes from `at` on.
 pub fn u32_at(s: &[u8], at: usize) -> u32
     requires { ⌜ at + 4 ≤ length (now s) ⌝ }
     ensures { λ r. ⌜ r ≡ u32At (now (s .entry)) at ⌝ }
@@ -42,6 +44,7 @@ pub fn signed(bits: u32) -> i32
     }
 }
 
+// The i32 in the four bytes from `at` on.
 pub fn i32_at(s: &[u8], at: usize) -> i32
     requires { ⌜ at + 4 ≤ length (now s) ⌝ }
     ensures { λ r. ⌜ r ≡ i32At (now (s .entry)) at ⌝ }
@@ -56,6 +59,7 @@ pub fn bits_of(z: i32) -> u32
     if z >= 0 { z as u32 } else { !((!z) as u32) }
 }
 
+// n over the two bytes from `at` on.
 pub fn put_u16(s: &mut [u8], at: usize, n: u16)
     requires { ⌜ at + 2 ≤ length (now s) ⌝ }
     ensures { λ _. ⌜ now (s .exit) ≡ put (now (s .entry)) at (u16Bytes n) ⌝ }
@@ -64,6 +68,7 @@ pub fn put_u16(s: &mut [u8], at: usize, n: u16)
     s[at + 1] = (n / 256 % 256) as u8;
 }
 
+// v over the four bytes from `at` on.
 pub fn put_u32(s: &mut [u8], at: usize, v: u32)
     requires { ⌜ at + 4 ≤ length (now s) ⌝ }
     ensures { λ _. ⌜ now (s .exit) ≡ put (now (s .entry)) at (u32Bytes v) ⌝ }
@@ -74,6 +79,7 @@ pub fn put_u32(s: &mut [u8], at: usize, v: u32)
     s[at + 3] = (v / 16777216 % 256) as u8;
 }
 
+// v over the four bytes from `at` on.
 pub fn put_i32(s: &mut [u8], at: usize, v: i32)
     requires { ⌜ at + 4 ≤ length (now s) ⌝ }
     ensures { λ _. ⌜ now (s .exit) ≡ put (now (s .entry)) at (i32Bytes v) ⌝ }

@@ -35,12 +35,14 @@ fn close_by(n: u64, p: Point, q: Point) -> bool
     close(n, p.y, q.y)
 }
 
+// (X, Y) of a placement.
 fn position_of(p: Placement) -> Point
     ensures { λ r. ⌜ r ≡ record { x = p .x; y = p .y } ⌝ }
 {
     Point { x: p.x, y: p.y }
 }
 
+// (Tx, Ty) of a placement.
 fn heading_of(p: Placement) -> Point
     ensures { λ r. ⌜ r ≡ record { x = p .tx; y = p .ty } ⌝ }
 {

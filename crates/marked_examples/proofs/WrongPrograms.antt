@@ -32,7 +32,7 @@ unfoldable pub short : List ℕ
 unfolding crest
 short = crest 1 10 (pos 0)
 
--- ---- "a program that refuses everything (the table's 'exactly when')"
+-- ---- "a program that refuses everything (the table's "exactly when")"
 
 pub refuses-all-files : (f : List ℕ → Outcome) → ((file : List ℕ) → (why : Refusal) × (f file ≡ Refused why)) → ((file : List ℕ) → f file ≡ checked file) → ⊥
 unfolding checked K

@@ -45,11 +45,13 @@ widestKink = 1000000
 
 -- ---- a record as an element
 
+-- "0 and 16 to 255 are damage"
 unfoldable pub isDamaged : KindByte → Bool
 isDamaged Damaged = true
 isDamaged (Known k) = false
 isDamaged Later = false
 
+-- "5 to 15 belong to later editions"
 unfoldable pub isLater : KindByte → Bool
 isLater Damaged = false
 isLater (Known k) = false
@@ -167,10 +169,12 @@ fieldsFit n b block =
     && allZero (part block zerosAt zeroCount)
     && allZero (part block (recordSize * usedIn block) (recordsEnd - recordSize * usedIn block))
 
+-- "2 for all blocks", with its place, "block for 2, 3": of block b
 unfoldable pub sumRules : List ℕ → ℕ → List Rule
 unfolding sumsAgree
 sumRules file b = rule checksum b (sumsAgree (blockOf file b)) ∷ []
 
+-- "3 for all", with the same place
 unfoldable pub fieldRules : List ℕ → ℕ → List Rule
 unfolding fieldsFit
 fieldRules file b = rule blockField b (fieldsFit (blockCount file) b (blockOf file b)) ∷ []
@@ -193,16 +197,18 @@ unfoldable pub checked : List ℕ → Outcome
 unfolding verdict crestRules
 checked file = verdict (crestRules file)
 
+-- the elements of n records from r on
 unfoldable pub elementsFrom : ℕ → ℕ → List ℕ → List Element
 unfolding elementAt
 elementsFrom zero r bytes = []
 elementsFrom (suc n) r bytes = elementAt bytes r ∷ elementsFrom n (r + 1) bytes
 
--- the elements of record bytes, and of a file
+-- the elements of record bytes
 unfoldable pub elementsOf : List ℕ → List Element
 unfolding elementsFrom
 elementsOf bytes = elementsFrom (countOf bytes) 0 bytes
 
+-- "A crest alignment is 1 to 60 elements read from blocks."
 unfoldable pub crestElements : List ℕ → List Element
 unfolding elementsOf recordBytes
 crestElements file = elementsOf (recordBytes file)

@@ -134,10 +134,12 @@ unfoldable pub locatedAfter : List Rule → List Element → Point → Located
 unfolding locatedIf verdict pointRules judged
 locatedAfter before es p = let s = judged es p in locatedIf (verdict (before ++ pointRules es p s)) es p s
 
+-- on the elements of an accepted alignment
 unfoldable pub locatedOn : List Element → Point → Located
 unfolding locatedAfter
 locatedOn es p = locatedAfter [] es p
 
+-- on a crest file, whose own refusals come first: "Every entry checks the alignment it is given."
 unfoldable pub located : List ℕ → Point → Located
 unfolding locatedAfter crestRules crestElements
 located file p = locatedAfter (crestRules file) (crestElements file) p
@@ -174,10 +176,12 @@ unfoldable pub inverseAfter : List Rule → List Element → ℤ → ℤ → Inv
 unfolding inverseIf verdict lineRules
 inverseAfter before es s w = inverseIf (verdict (before ++ lineRules es s w)) es s w
 
+-- on the elements of an accepted alignment
 unfoldable pub inverseOn : List Element → ℤ → ℤ → Inverse
 unfolding inverseAfter
 inverseOn es s w = inverseAfter [] es s w
 
+-- on a crest file, whose own refusals come first: "Every entry checks the alignment it is given."
 unfoldable pub inverse : List ℕ → ℤ → ℤ → Inverse
 unfolding inverseAfter crestRules crestElements
 inverse file s w = inverseAfter (crestRules file) (crestElements file) s w
@@ -205,6 +209,7 @@ unfolding moveOf
 moveIf Done own target c s = moveOf own target c s
 moveIf (Refused r) own target c s = MoveRefused r
 
+-- "Stake-out (source document 003), own point, target and heading (c, s)"
 unfoldable pub stakeOut : Point → Point → ℤ → ℤ → Move
 unfolding moveIf verdict moveRules
 stakeOut own target c s = moveIf (verdict (moveRules own target c s)) own target c s

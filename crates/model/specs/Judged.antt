@@ -9,7 +9,7 @@ use Rattle.model.specs.declared.Point.{Point}
 use Rattle.model.specs.Rounding.{ONE, near}
 use Rattle.model.specs.Stations.{total, positionAt, tangentAt, D}
 
--- "The station judged is the least s with the least D": a search over the stations 0 to t for any distance.
+-- the least of the stations 0 to t that have the least d, for any distance d
 unfoldable pub leastOf : (ℕ → ℕ) → ℕ → ℕ
 leastOf d zero = zero
 leastOf d (suc t) = let before = leastOf d t in cond (ltb (d (suc t)) (d before)) (suc t) before
@@ -20,6 +20,7 @@ pub record Least (d : ℕ → ℕ) (t b : ℕ) : Type 0 where
   pub least : (s : ℕ) → s ≤ t → d b ≤ d s
   pub first : (s : ℕ) → s < b → d b < d s
 
+-- "The station judged is the least s with the least D"
 unfoldable pub judged : List Element → Point → ℕ
 unfolding leastOf D total
 judged es p = leastOf (D es p) (total es)
@@ -33,9 +34,11 @@ unfoldable pub offsetOf : Point → Point → ℤ
 unfolding near
 offsetOf t d = near (t .x *ℤ d .y -ℤ t .y *ℤ d .x) ONE
 
+-- "P − position"
 unfoldable pub minus : Point → Point → Point
 minus p q = record { x = p .x -ℤ q .x; y = p .y -ℤ q .y }
 
+-- residual and offset of P at station s
 unfoldable pub residualAt : List Element → Point → ℕ → ℤ
 unfolding residualOf tangentAt minus positionAt
 residualAt es p s = residualOf (tangentAt es s) (minus p (positionAt es s))

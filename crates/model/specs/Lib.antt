@@ -1,4 +1,4 @@
--- Document 01 as definitions, a file for each chapter, in the order in which they build on one another.
+-- Document 01 as definitions, a file for each chapter or part of one, in the order in which they build on one another.
 pub mod Rounding
 pub mod Refusals
 pub mod Kinds

@@ -7,9 +7,11 @@ use Rattle.model.specs.declared.Refusal.{Refusal}
 use Rattle.model.specs.declared.Outcome.{Outcome}
 use Rattle.model.specs.declared.Outcome.the-variants.{Done, Refused}
 
+-- the table's refusals, in its order
 pub data Reason : Type 0 where
   byteCount checksum blockField damagedRecord laterKind fieldOutOfRange notUnit gap kink notWhole outsideFrame tooFar beforeStart afterEnd askedOutOfRange runFull recordCount wrongRoom : Reason
 
+-- its column "no."
 unfoldable pub number : Reason → ℕ
 number byteCount = 1
 number checksum = 2
@@ -69,6 +71,7 @@ rule why place holds = record { why = why; place = place; holds = holds }
 abbrev pub rule₀ : Reason → Bool → Rule
 rule₀ why holds = rule why 0 holds
 
+-- the refusal where a rule does not hold, and else the outcome of the rules after it
 unfoldable pub orRefused : Bool → Reason → ℕ → Outcome → Outcome
 unfolding refusal
 orRefused true why place o = o

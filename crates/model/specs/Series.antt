@@ -61,6 +61,7 @@ unfoldable pub seriesAside : Series → ℕ → ℤ → ℤ
 unfolding near F squareOf
 seriesAside k z t = near (near (pos (100 * z) *ℤ t) ONE *ℤ F (k .asideFactor) (squareOf t)) (k .asideDivisor * ONE)
 
+-- "direction: (F(2; 1, 12), near(t·F(6; 1, 20), ONE))": its first component, and its second
 unfoldable pub cosine : ℤ → ℤ
 unfolding F squareOf
 cosine t = F cosineFactor (squareOf t)
@@ -117,6 +118,7 @@ unfoldable pub lengthAt : Element → ℕ → ℕ
 unfolding fromAnchor
 lengthAt e s = fromAnchor (e .kind) (e .length) s
 
+-- t, (u, v) and the direction at s mm from an element's start
 unfoldable pub angleAt : Element → ℕ → ℤ
 unfolding angleOf lengthAt
 angleAt e s = angleOf (e .kind) (e .radius) (e .length) (lengthAt e s)
@@ -136,6 +138,7 @@ unfoldable pub turned : ℤ → ℤ → Local → Point
 unfolding near
 turned c s w = record { x = near (c *ℤ w .along -ℤ s *ℤ w .aside) ONE; y = near (s *ℤ w .along +ℤ c *ℤ w .aside) ONE }
 
+-- the part that adds x and y
 unfoldable pub movedBy : ℤ → ℤ → Point → Point
 movedBy x y p = record { x = x +ℤ p .x; y = y +ℤ p .y }
 

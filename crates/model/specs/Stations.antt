@@ -58,10 +58,12 @@ unfoldable pub positionAt : List Element → ℕ → Point
 unfolding atStation positionOn
 positionAt es s = let at = atStation es s in positionOn (at .element) (at .s)
 
+-- (Tx, Ty) there
 unfoldable pub tangentAt : List Element → ℕ → Point
 unfolding atStation tangentOn
 tangentAt es s = let at = atStation es s in tangentOn (at .element) (at .s)
 
+-- "the squared distance" of two points
 unfoldable pub distanceSq : Point → Point → ℕ
 unfolding squared
 distanceSq p q = squared (p .x -ℤ q .x) (p .y -ℤ q .y)

@@ -12,6 +12,7 @@ use Rattle.model.specs.Stations.{total, D}
 
 -- ---- the first pass
 
+-- n stations from s on, 1,000 apart
 unfoldable pub multiplesFrom : ℕ → ℕ → List ℕ
 multiplesFrom zero s = []
 multiplesFrom (suc n) s = s ∷ multiplesFrom n (s + 1000)
@@ -74,12 +75,14 @@ secondFrom d (e ∷ es) s b =
     let visits = elementVisits d (ownStations e es) (ownStations e es) s b in
     visits ++ secondFrom d es (s + e .length) (bestOf d b visits)
 
+-- "Then from station 0", with the best of the first pass
 unfoldable pub secondVisits : List Element → Point → List ℕ
 unfolding secondFrom firstBest D total
 secondVisits es p = secondFrom (D es p) es 0 (firstBest (D es p) (total es))
 
 -- ---- the walk
 
+-- the visits "in both passes"
 unfoldable pub visits : List Element → Point → List ℕ
 unfolding firstVisits secondVisits total
 visits es p = firstVisits (total es) ++ secondVisits es p

@@ -32,9 +32,11 @@ unfolding block
 blocksFrom zero b records = []
 blocksFrom (suc n) b records = block b (take recordsEnd records) ++ blocksFrom n (b + 1) (drop recordsEnd records)
 
+-- "the blocks needed": as many as hold the records, 15 in each
 abbrev pub blocksNeeded : List ℕ → ℕ
 blocksNeeded records = (countOf records + (perBlock - 1)) / perBlock
 
+-- the one file of these records; demand 2: "a crest has one file only."
 unfoldable pub fileOf : List ℕ → List ℕ
 unfolding blocksFrom
 fileOf records = blocksFrom (blocksNeeded records) 0 records

@@ -65,6 +65,7 @@ pub fn is_unit(c: i64, s: i64) -> bool
     sum >= 0x0fff_ffff_8000_0000
 }
 
+// Whether x is from low to high.
 fn between(low: u64, x: u64, high: u64) -> bool
     ensures { λ r. ⌜ r ≡ (leb low x && leb x high) ⌝ }
 {
@@ -112,6 +113,7 @@ fn kind_in(byte: u8) -> Kind
     }
 }
 
+// The i32 in the four bytes from `at` on, in 64 bits.
 fn wide_at(rec: &[u8], at: usize) -> i64
     requires { ⌜ at + 4 ≤ length (now rec) ⌝ }
     ensures { λ r. ⌜ r ≡ i32At (now (rec .entry)) at ⌝ }

@@ -1,4 +1,4 @@
--- `alignment::accept::check` meets its contract.
+-- `alignment::accept::check` meets its contract: an acceptance's outcome is that of the check.
 use borrow.Author.Needs.{needs}
 use Rattle.alignment.proofs.AcceptCrest.{outcome-checked}
 use Rattle.alignment.proofs.accept.check.Statement.{statement}

@@ -1,4 +1,4 @@
--- `alignment::accept::empty` meets its contract.
+-- `alignment::accept::empty` meets its contract: 60 times what stands for no element, of which none is used.
 use mathlib.Core.Path.{refl}
 use Rattle.alignment.specs.Accepts.{alignmentOf}
 use Rattle.alignment.proofs.accept.empty.Statement.{statement}

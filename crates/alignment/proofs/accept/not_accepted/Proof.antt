@@ -1,4 +1,4 @@
--- `alignment::accept::not_accepted` meets its contract.
+-- `alignment::accept::not_accepted` meets its contract: the empty alignment beside the refusal.
 use borrow.Author.Needs.{needs}
 use Rattle.alignment.proofs.accept.not_accepted.Statement.{statement}
 use Rattle.alignment.proofs.accept.not_accepted.Tie as tie

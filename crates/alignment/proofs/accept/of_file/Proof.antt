@@ -1,4 +1,4 @@
--- `alignment::accept::of_file` meets its contract.
+-- `alignment::accept::of_file` meets its contract: what is gathered from the blocks are the elements of the file's record bytes.
 use mathlib.Core.Path.{ap, _∙_}
 use borrow.Author.Needs.{needs}
 use Rattle.alignment.specs.Accepts.{alignmentOf}

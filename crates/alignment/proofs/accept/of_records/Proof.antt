@@ -1,4 +1,4 @@
--- `alignment::accept::of_records` meets its contract.
+-- `alignment::accept::of_records` meets its contract: what is gathered are the elements of the record bytes.
 use mathlib.Core.Path.{ap, _∙_}
 use Rattle.alignment.specs.Accepts.{alignmentOf}
 use Rattle.alignment.proofs.AcceptRecords.{records-hold, records-gathered}

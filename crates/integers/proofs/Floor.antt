@@ -2,9 +2,9 @@
 -- and so is the machine's division, less 1 where the remainder is negative.
 use mathlib.Core.Path.{_≡_, refl, sym, _∙_, ap, subst}
 use mathlib.Core.Logic.{⊎-elim}
-use Prim.Native.Nat.{ℕ, suc, _*_, _/_, _%_, _<_, _≤_}
+use Prim.Native.Nat.{ℕ, suc, _+_, _*_, _/_, _%_, _<_, _≤_}
 use native.Mathlib.Omega.{arith}
-use native.Mathlib.Nat.{mul-one, mul-suc, mul-pos, div-add-mod, mod-lt, div-le-self}
+use native.Mathlib.Nat.{add-mul, mul-one, mul-suc, mul-assoc, mul-pos, div-add-mod, mul-add-div, mod-lt, div-le-self}
 use lib.IntN.{ℤ, pos, negsuc, negℤ, _+ℤ_, _-ℤ_, _*ℤ_, negℤ-+ℤ, -ℤ-+ℤ-cancel}
 use lib.Signed.{_≤ℤ_, _<ℤ_, clashℤ, shrZ, quotZ, remZ, mag, mag-shr}
 use mir.Syntax.{Width}
@@ -84,6 +84,14 @@ floor-scale {k} {d} l h n =
       low = subst (λ x. x ≤ℤ (pos k *ℤ n)) (assoc (floorDiv n d)) (≤ℤ-mul-left (pos k) (0≤-pos k) (floor-low h n));
       high = subst (λ x. (pos k *ℤ n) <ℤ x) (assoc (floorDiv n d +ℤ pos 1)) (<ℤ-mul l (floor-high h n));
     }))
+
+-- ---- long division of natural numbers
+
+-- one step: the quotient of m · b + h from the quotient and the remainder of m
+pub long-division : (m b h : ℕ) {d : ℕ} → 0 < d → m / d * b + (m % d * b + h) / d ≡ (m * b + h) / d
+long-division m b h {d} l =
+    sym (mul-add-div l (m / d * b) (m % d * b + h))
+    ∙ ap (λ x. x / d) (omega (arith, sym (mul-assoc d (m / d) b), add-mul (d * (m / d)) (m % d) b, ap (λ x. x * b) (div-add-mod m d)))
 
 -- ---- the machine's division, which rounds toward zero
 

@@ -1,25 +1,19 @@
 -- `integers::scaled_quotient` meets its contract: a long division, whose first step leaves the quotient's high digit and a remainder below d.
-use mathlib.Core.Path.{_≡_, sym, _∙_, ap}
-use Prim.Native.Nat.{ℕ, _+_, _*_, _/_, _%_, _^_, _<_}
+use mathlib.Core.Path.{_∙_, ap}
+use Prim.Native.Nat.{ℕ, _*_, _/_, _^_, _<_}
 use native.Mathlib.Omega.{arith}
-use native.Mathlib.Nat.{add-mul, mul-assoc, mod-lt, div-add-mod, mul-add-div, div-lt-iff-lt-mul}
+use native.Mathlib.Nat.{add-zero, mod-lt, div-lt-iff-lt-mul}
 use borrow.Author.Needs.{needs}
 use Rattle.integers.specs.Scaled.{Scalable}
+use Rattle.integers.proofs.Floor.{long-division}
 use Rattle.integers.proofs.scaled_quotient.Statement.{statement}
 use Rattle.integers.proofs.scaled_quotient.Tie as tie
-
--- one step: the quotient of m · b from the quotient and the remainder of m
-long-division : (m b : ℕ) {d : ℕ} → 0 < d → m / d * b + m % d * b / d ≡ m * b / d
-long-division m b {d} h =
-    sym (mul-add-div h (m / d * b) (m % d * b))
-    ∙ ap (λ x. (x + m % d * b) / d) (sym (mul-assoc d (m / d) b))
-    ∙ ap (λ x. x / d) (sym (add-mul (d * (m / d)) (m % d) b) ∙ ap (λ x. x * b) (div-add-mod m d))
 
 quotient-fits : {n d : ℕ} → Scalable n d → 2 ^ 30 * n / d < 2 ^ 64
 quotient-fits {n} {d} s = div-lt-iff-lt-mul (s .positive) .1 (omega (arith, s .quotient))
 
 returns : tie.Need-returns
-returns c = long-division (c .args .n * 32768) 32768 (c .pre .positive) ∙ ap (λ x. x / c .args .d) (omega arith)
+returns c = simp add-zero at (long-division (c .args .n * 32768) 32768 0 (c .pre .positive)) ∙ ap (λ x. x / c .args .d) (omega arith)
 
 mul-whole : tie.Need-mul-whole
 mul-whole c = search needs

@@ -4,7 +4,9 @@ use native.Mathlib.Omega.{arith}
 use borrow.Author.Needs.{needs}
 use lib.IntN.{natAbs}
 use mir.Facts.{toZ-ofZ}
-use Rattle.records.proofs.Unit.{square-fits, square-large, too-long, not-too-long}
+use Rattle.integers.specs.Plane.{squared}
+use Rattle.integers.proofs.Abs.{square-≤, square-<}
+use Rattle.records.proofs.Unit.{too-long, not-too-long}
 use Rattle.records.proofs.is_unit.Statement.{statement}
 use Rattle.records.proofs.is_unit.Tie as tie
 
@@ -20,30 +22,34 @@ magnitude-requires-2 : tie.Need-magnitude-requires-2
 magnitude-requires-2 c κs = search needs
 
 returns : tie.Need-returns
+unfolding squared
 returns c =
     let z = sizes (c .before) in
-    sym (too-long _ _ (rw (← z .0, ← z .1) (omega (arith, square-large _ (c .if1 .taken)))))
+    sym (too-long _ _ (rw (← z .0, ← z .1) (omega (arith, square-< (c .if1 .taken)))))
 
 returns-2 : tie.Need-returns-2
+unfolding squared
 returns-2 c =
     let z = sizes (c .before .before) in
-    sym (too-long _ _ (rw (← z .0, ← z .1) (omega (arith, square-large _ (c .if2 .taken)))))
+    sym (too-long _ _ (rw (← z .0, ← z .1) (omega (arith, square-< (c .if2 .taken)))))
 
 mul-sum : tie.Need-mul-sum
-mul-sum c = omega (arith, square-fits _ (c .before .if1 .left))
+mul-sum c = omega (arith, square-≤ (c .before .if1 .left))
 
 mul-sum-2 : tie.Need-mul-sum-2
-mul-sum-2 c = omega (arith, square-fits _ (c .if2 .left))
+mul-sum-2 c = omega (arith, square-≤ (c .if2 .left))
 
 add-sum : tie.Need-add-sum
-add-sum c = omega (arith, square-fits _ (c .before .if1 .left), square-fits _ (c .if2 .left))
+add-sum c = omega (arith, square-≤ (c .before .if1 .left), square-≤ (c .if2 .left))
 
 returns-3 : tie.Need-returns-3
+unfolding squared
 returns-3 c =
     let z = sizes (c .before .before .before) in
     sym (too-long _ _ (rw (← z .0, ← z .1) (c .if3 .taken)))
 
 returns-4 : tie.Need-returns-4
+unfolding squared
 returns-4 c =
     let z = sizes (c .before .before .before) in
     let a = c .before .before .before .before .before .args in

@@ -2,6 +2,7 @@
 pub mod Bytes
 pub mod Fields
 pub mod Parts
+pub mod Summed
 pub mod OneBlock
 pub mod BlockRules
 -- What is written into lent room.

@@ -4,7 +4,7 @@ use mathlib.Core.Path.{sym, ap}
 use native.Mathlib.Omega.{arith}
 use borrow.Author.Needs.{needs}
 use Rattle.model.specs.Records.{sumA, sumB}
-use Rattle.records.proofs.Rest.{Summed, weight-small, summed-one-more, summed-all}
+use Rattle.blocks.proofs.Summed.{Summed, weight-small, summed-one-more, summed-all}
 use Rattle.blocks.proofs.sums_of.Statement.{statement}
 use Rattle.blocks.proofs.sums_of.Tie as tie
 

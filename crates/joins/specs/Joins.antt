@@ -24,17 +24,18 @@ pub record SmallPlacement (p : Placement) : Type 0 where
   pub tx : Small (p .tx)
   pub ty : Small (p .ty)
 
+-- (X, Y) of a placement, and (Tx, Ty)
 abbrev pub positionIn : Placement → Point
 positionIn p = record { x = p .x; y = p .y }
 
-abbrev pub headingIn : Placement → Point
-headingIn p = record { x = p .tx; y = p .ty }
+abbrev pub directionIn : Placement → Point
+directionIn p = record { x = p .tx; y = p .ty }
 
 -- "8 before 9", "earlier record for 8, 9": the join after record r, from where its element ends and where the next begins
 unfoldable pub placedRules : Placement → Placement → ℕ → List Rule
 unfolding closeBy
 placedRules last first r =
-    rule gap r (closeBy widestGap (positionIn last) (positionIn first)) ∷ rule kink r (closeBy widestKink (headingIn last) (headingIn first)) ∷ []
+    rule gap r (closeBy widestGap (positionIn last) (positionIn first)) ∷ rule kink r (closeBy widestKink (directionIn last) (directionIn first)) ∷ []
 
 -- "then joins from the first": the joins of an alignment's elements
 unfoldable pub joinsRules : List Element → List Rule

@@ -12,7 +12,7 @@ ghost use Rattle.model.specs.Refusals.{verdict};
 ghost use Rattle.model.specs.Acceptance.{closeBy};
 ghost use Rattle.model.specs.Stations.{used};
 ghost use Rattle.model.specs.Accepted.{AlignmentAccepted};
-ghost use Rattle.joins.specs.Joins.{Small, SmallPoint, SmallPlacement, placedRules, joinsRules};
+ghost use Rattle.joins.specs.Joins.{Small, SmallPoint, SmallPlacement, positionIn, directionIn, placedRules, joinsRules};
 
 // Whether two numbers differ by at most n.
 fn close(n: u64, a: i64, b: i64) -> bool
@@ -36,15 +36,15 @@ fn close_by(n: u64, p: Point, q: Point) -> bool
 }
 
 // (X, Y) of a placement.
-fn position_of(p: Placement) -> Point
-    ensures { λ r. ⌜ r ≡ record { x = p .x; y = p .y } ⌝ }
+fn position_in(p: Placement) -> Point
+    ensures { λ r. ⌜ r ≡ positionIn p ⌝ }
 {
     Point { x: p.x, y: p.y }
 }
 
 // (Tx, Ty) of a placement.
-fn heading_of(p: Placement) -> Point
-    ensures { λ r. ⌜ r ≡ record { x = p .tx; y = p .ty } ⌝ }
+fn direction_in(p: Placement) -> Point
+    ensures { λ r. ⌜ r ≡ directionIn p ⌝ }
 {
     Point { x: p.tx, y: p.ty }
 }
@@ -55,8 +55,8 @@ fn check_join(last: Placement, first: Placement, r: u32) -> Outcome
     requires { ⌜ SmallPlacement first ⌝ }
     ensures { λ o. ⌜ o ≡ verdict (placedRules last first r) ⌝ }
 {
-    let meets = close_by(100, position_of(last), position_of(first));
-    let continues = close_by(1000000, heading_of(last), heading_of(first));
+    let meets = close_by(100, position_in(last), position_in(first));
+    let continues = close_by(1000000, direction_in(last), direction_in(first));
     if !meets {
         return refused(8, r);
     }

@@ -4,32 +4,32 @@ use borrow.Author.Tests.{not-true, not-false}
 use borrow.Author.Needs.{needs}
 use Rattle.model.specs.Refusals.{verdict, orRefused, refusal, number}
 use Rattle.model.specs.Acceptance.{closeBy}
-use Rattle.joins.specs.Joins.{positionIn, headingIn, placedRules}
+use Rattle.joins.specs.Joins.{positionIn, directionIn, placedRules}
 use Rattle.joins.proofs.check_join.Statement.{statement}
 use Rattle.joins.proofs.check_join.Tie as tie
 
-position-of-requires : tie.Need-position-of-requires
-position-of-requires c κs = search needs
+position-in-requires : tie.Need-position-in-requires
+position-in-requires c κs = search needs
 
-position-of-requires-2 : tie.Need-position-of-requires-2
-position-of-requires-2 c κs = search needs
+position-in-requires-2 : tie.Need-position-in-requires-2
+position-in-requires-2 c κs = search needs
 
 close-by-requires : tie.Need-close-by-requires
 close-by-requires c κs =
     let p = c .before .before .pre in
-    rw (c .before .position-of .ensures, c .position-of2 .ensures)
+    rw (c .before .position-in .ensures, c .position-in2 .ensures)
     (record { x = p .0 .x; y = p .0 .y }, record { x = p .1 .x; y = p .1 .y })
 
-heading-of-requires : tie.Need-heading-of-requires
-heading-of-requires c κs = search needs
+direction-in-requires : tie.Need-direction-in-requires
+direction-in-requires c κs = search needs
 
-heading-of-requires-2 : tie.Need-heading-of-requires-2
-heading-of-requires-2 c κs = search needs
+direction-in-requires-2 : tie.Need-direction-in-requires-2
+direction-in-requires-2 c κs = search needs
 
 close-by-requires-2 : tie.Need-close-by-requires-2
 close-by-requires-2 c κs =
     let p = c .before .before .before .before .before .pre in
-    rw (c .before .heading-of .ensures, c .heading-of2 .ensures)
+    rw (c .before .direction-in .ensures, c .direction-in2 .ensures)
     (record { x = p .0 .tx; y = p .0 .ty }, record { x = p .1 .tx; y = p .1 .ty })
 
 refused-requires : tie.Need-refused-requires
@@ -37,10 +37,10 @@ refused-requires c κs = search needs
 
 -- what the two tests say of the placements
 gap-tested : (c : tie.After-close-by) → let a = c .before .before .before .args in closeBy 100 (positionIn (a .last)) (positionIn (a .first)) ≡ c .close-by .result
-gap-tested c = sym (c .close-by .ensures ∙ ap₂ (closeBy 100) (c .before .before .position-of .ensures) (c .before .position-of2 .ensures))
+gap-tested c = sym (c .close-by .ensures ∙ ap₂ (closeBy 100) (c .before .before .position-in .ensures) (c .before .position-in2 .ensures))
 
-kink-tested : (c : tie.After-close-by2) → let a = c .before .before .before .before .before .before .args in closeBy 1000000 (headingIn (a .last)) (headingIn (a .first)) ≡ c .close-by2 .result
-kink-tested c = sym (c .close-by2 .ensures ∙ ap₂ (closeBy 1000000) (c .before .before .heading-of .ensures) (c .before .heading-of2 .ensures))
+kink-tested : (c : tie.After-close-by2) → let a = c .before .before .before .before .before .before .args in closeBy 1000000 (directionIn (a .last)) (directionIn (a .first)) ≡ c .close-by2 .result
+kink-tested c = sym (c .close-by2 .ensures ∙ ap₂ (closeBy 1000000) (c .before .before .direction-in .ensures) (c .before .direction-in2 .ensures))
 
 returns : tie.Need-returns
 unfolding verdict placedRules orRefused refusal number
@@ -72,11 +72,11 @@ pub check-join-spec : {M : Type 1} → statement M
 check-join-spec =
     tie.close
     (tie.spec
-    position-of-requires
-    position-of-requires-2
+    position-in-requires
+    position-in-requires-2
     close-by-requires
-    heading-of-requires
-    heading-of-requires-2
+    direction-in-requires
+    direction-in-requires-2
     close-by-requires-2
     refused-requires
     returns

@@ -45,12 +45,12 @@ module _ (file : List ℕ) (e : checked file ≡ Done) where
 -- ---- the alignment
 
 -- an alignment whose elements are these, each of them accepted
-pub record Of (es : List Element) (a : Alignment) : Type 0 where
+pub record AlignmentOf (es : List Element) (a : Alignment) : Type 0 where
   pub elements : used a ≡ es
   pub accepted : AlignmentAccepted a
 
 -- that of records that refuse nothing
-pub records-of : (bytes : List ℕ) {a : Alignment} → countFits (length bytes) ≡ true → verdict (eachRecord bytes) ≡ Done → a ≡ alignmentOf (elementsOf bytes) → Of (elementsOf bytes) a
+pub records-of : (bytes : List ℕ) {a : Alignment} → countFits (length bytes) ≡ true → verdict (eachRecord bytes) ≡ Done → a ≡ alignmentOf (elementsOf bytes) → AlignmentOf (elementsOf bytes) a
 unfolding elementsOf alignmentOf used
 records-of bytes f v h =
     let n = countOf bytes in
@@ -79,7 +79,7 @@ module _ (file : List ℕ) {r : Acceptance} (a : r ≡ acceptanceOf file) where
   unfolding acceptanceOf
   outcome-checked = ap (λ (x : Acceptance). x .outcome) a ∙ outcome-in (checked file) file
 
-  pub crest-of : r .outcome ≡ Done → Of (crestElements file) (r .alignment)
+  pub crest-of : r .outcome ≡ Done → AlignmentOf (crestElements file) (r .alignment)
   unfolding crestElements
   crest-of d =
       let e = sym outcome-checked ∙ d in

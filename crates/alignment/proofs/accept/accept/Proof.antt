@@ -8,7 +8,7 @@ use Rattle.model.specs.Acceptance.{blocksRules, checked, crestElements}
 use Rattle.joins.specs.Joins.{joinsRules}
 use Rattle.alignment.proofs.AcceptRecords.{eachRecord, blocks-fit}
 use Rattle.alignment.proofs.AcceptOrders.{blocks-refused, records-left, record-refused, joins-decide, refused-accepts, done-accepts}
-use Rattle.alignment.proofs.AcceptCrest.{Of, records-of}
+use Rattle.alignment.proofs.AcceptCrest.{AlignmentOf, records-of}
 use Rattle.alignment.proofs.accept.accept.Statement.{statement}
 use Rattle.alignment.proofs.accept.accept.Tie as tie
 
@@ -59,7 +59,7 @@ records-done c = sym (c .before .before .check-records .ensures) ∙ c .enum-tol
 of-file-requires : tie.Need-of-file-requires
 of-file-requires c κs = blocks-done (c .before .before .before)
 
-elements-of : (c : tie.After-of-file) → Of (crestElements (c .before .before .before .before .before .before .before .before .args .file .now)) (c .of-file .result)
+elements-of : (c : tie.After-of-file) → AlignmentOf (crestElements (c .before .before .before .before .before .before .before .before .args .file .now)) (c .of-file .result)
 unfolding crestElements
 elements-of c = records-of _ (blocks-fit _ (blocks-done (c .before .before .before .before))) (records-done (c .before)) (c .of-file .ensures)
 

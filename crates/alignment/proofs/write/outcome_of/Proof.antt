@@ -12,7 +12,7 @@ use Rattle.crestfile.proofs.Orders.{one-refused, one-done}
 use Rattle.joins.specs.Joins.{joinsRules}
 use Rattle.alignment.proofs.AcceptRecords.{eachRecord}
 use Rattle.alignment.proofs.AcceptOrders.{record-refused, joins-left}
-use Rattle.alignment.proofs.AcceptCrest.{Of, records-of}
+use Rattle.alignment.proofs.AcceptCrest.{AlignmentOf, records-of}
 use Rattle.alignment.proofs.WriteOrders.{count-refused, records-refused, room-decides}
 use Rattle.alignment.proofs.write.outcome_of.Statement.{statement}
 use Rattle.alignment.proofs.write.outcome_of.Tie as tie
@@ -61,7 +61,7 @@ records-done c = sym (c .before .before .check-record-bytes .ensures) ∙ c .enu
 of-records-requires : tie.Need-of-records-requires
 of-records-requires c κs = fits (c .before .before .before)
 
-elements-of : (c : tie.After-of-records) → Of (elementsOf (c .before .before .before .before .before .before .before .args .records .now)) (c .of-records .result)
+elements-of : (c : tie.After-of-records) → AlignmentOf (elementsOf (c .before .before .before .before .before .before .before .args .records .now)) (c .of-records .result)
 elements-of c = records-of _ (fits (c .before .before .before .before)) (records-done (c .before)) (c .of-records .ensures)
 
 check-joins-requires : tie.Need-check-joins-requires

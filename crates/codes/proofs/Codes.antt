@@ -9,39 +9,18 @@ use lib.ListN.{length}
 use Rattle.model.specs.declared.Element.{Element}
 use Rattle.model.specs.declared.Outcome.{Outcome}
 use Rattle.model.specs.declared.Outcome.the-variants.{Done, Refused}
-use Rattle.model.specs.Refusals.{Reason, byteCount, checksum, blockField, damagedRecord, laterKind, fieldOutOfRange, notUnit, gap, kink, notWhole, outsideFrame, tooFar, beforeStart, afterEnd, askedOutOfRange, runFull, recordCount, wrongRoom, number, Rule, rule₀, refusal, orRefused, verdict, forEach}
+use Rattle.model.specs.Refusals.{Reason, byteCount, recordCount, wrongRoom, Rule, rule₀, refusal, orRefused, verdict, forEach}
 use Rattle.model.specs.Records.{blockSize, recordBytes, blockCount, countOf, recordOf}
 use Rattle.model.specs.Acceptance.{elementAt, lengthFits, recordRules, joinRules, recordsRules, sumRules, fieldRules, blocksRules, crestRules, checked}
 use Rattle.model.specs.Answers.{PaperAnswer, paperOfOutcome, code}
 use Rattle.model.specs.Writer.{countFits, blocksNeeded, writerRules, writerOutcome}
-use Rattle.model.proofs.Verdict.{verdict-after, refused-before, done→all}
+use Rattle.model.proofs.Verdict.{reason-numbered, verdict-after, refused-before, done→all}
 use Rattle.crestfile.proofs.ForEach.{holds-one}
 use Rattle.crestfile.proofs.Crest.{count-fits, fits→sized}
 use Rattle.crestfile.proofs.Count.{blocks→counted}
 use Rattle.codes.specs.Codes.{Small}
 
 -- ---- orders of refusals
-
-table : (why : Reason) → number why ≤ 18
-unfolding number
-table byteCount = omega arith
-table checksum = omega arith
-table blockField = omega arith
-table damagedRecord = omega arith
-table laterKind = omega arith
-table fieldOutOfRange = omega arith
-table notUnit = omega arith
-table gap = omega arith
-table kink = omega arith
-table notWhole = omega arith
-table outsideFrame = omega arith
-table tooFar = omega arith
-table beforeStart = omega arith
-table afterEnd = omega arith
-table askedOutOfRange = omega arith
-table runFull = omega arith
-table recordCount = omega arith
-table wrongRoom = omega arith
 
 -- what an order of refusals comes to is small
 abbrev pub SmallOrder : List Rule → Type 0
@@ -54,7 +33,7 @@ none-small = record { number = omega arith; place = omega arith }
 pub one-small : (why : Reason) (place : ℕ) (b : Bool) → place ≤ 60 → SmallOrder (record { why = why; place = place; holds = b } ∷ [])
 unfolding verdict orRefused refusal paperOfOutcome
 one-small why place true h = record { number = omega arith; place = omega arith }
-one-small why place false h = record { number = table why; place = h }
+one-small why place false h = record { number = reason-numbered why .1; place = h }
 
 -- one part of an order after another
 pub then-small : (rs ss : List Rule) → SmallOrder rs → (verdict rs ≡ Done → SmallOrder ss) → SmallOrder (rs ++ ss)

@@ -12,7 +12,6 @@ use borrow.Author.Tests.{eqb-true, eq-eqb}
 use lib.ListN.{length, take, drop, replicate, length-append}
 use lib.Seq.{take-append-seam, drop-append-seam}
 use lib.IntN.{ℤ, pos, natAbs}
-use Rattle.model.specs.declared.Element.{Element}
 use Rattle.model.specs.declared.Point.{Point}
 use Rattle.model.specs.declared.Refusal.{Refusal}
 use Rattle.model.specs.declared.Outcome.{Outcome}
@@ -26,20 +25,22 @@ use Rattle.model.specs.declared.Reading.{Reading}
 use Rattle.model.specs.declared.Reading.the-variants.{PlanePoint, LinePlace}
 use Rattle.model.specs.declared.ReadingAnswer.{ReadingAnswer}
 use Rattle.model.specs.declared.ReadingAnswer.the-variants.{Refused as AnswerRefused}
-use Rattle.model.specs.Refusals.{Reason, byteCount, checksum, blockField, damagedRecord, laterKind, fieldOutOfRange, notUnit, gap, kink, notWhole, outsideFrame, tooFar, beforeStart, afterEnd, askedOutOfRange, runFull, recordCount, wrongRoom, Rule, number, refusal, rule₀, verdict}
+use Rattle.model.specs.Refusals.{askedOutOfRange, wrongRoom, Rule, refusal, rule₀, verdict}
 use Rattle.model.specs.Acceptance.{checked, crestRules, crestElements}
 use Rattle.model.specs.Judged.{judged}
 use Rattle.model.specs.Records.{byteAt, recordBytes, countOf}
 use Rattle.model.specs.Stations.{isStation}
 use Rattle.model.specs.Writer.{writerRules, writerOutcome, roomAfter, written}
-use Rattle.model.specs.Answers.{code, paperOfOutcome, paperOfPlaced, paperOfLocated, paperOfInverse, paperOfMove, readerOutcome, spanIf, readerSpan, readerPart, placedIf, placed, pointRules, locatedIf, locatedAfter, located, lineRules, inverseIf, inverseAfter, inverse, moveOf, moveIf, moveRules, stakeOut}
-use Rattle.model.specs.Readings.{answerTo, answerAfter, fromLocated, fromInverse, numberRules, wholeOf, valueOf, paperOfReading, zeroFloat, displayOf}
+use Rattle.model.specs.Answers.{code, paperOfOutcome, paperOfPlaced, paperOfLocated, paperOfInverse, paperOfMove, readerOutcome, spanIf, readerSpan, readerPart, placed, pointRules, locatedAfter, located, lineRules, inverseAfter, inverse, moveOf, moveIf, moveRules, stakeOut}
+use Rattle.model.specs.Readings.{answerTo, answerAfter, numberRules, wholeOf, valueOf, paperOfReading, zeroFloat, displayOf}
 use Rattle.model.specs.Run.{shownOf, isFull, runAt, runBytes, counted, acknowledged, readingCall, acknowledgeCall, checkCall, writeCall, moveBytes, stakeOutCall}
 use Rattle.model.specs.Histories.{Call, read, acknowledge, bytesAfterCalls, freshBytes, demanded}
-use Rattle.model.proofs.Verdict.{AllHold, more, Cause, crest-outcome, refused→first, done→all, all→done}
+use Rattle.model.proofs.Verdict.{reason-numbered, AllHold, more, Cause, crest-outcome, refused→first, done→all, all→done}
 use Rattle.readings.proofs.Refused.{answer-number, Zeros, refusal-shows-zeros}
 use Rattle.readings.proofs.Calls.{reading-18, reading-16, reading-counted, not-counted-unchanged, acknowledge-18, acknowledge-0}
+use Rattle.walk_laws.proofs.Outcomes.{located-refused}
 use Rattle.answers.proofs.Storable.{answer-values}
+use Rattle.demands.proofs.Orders.{placed-refused, inverse-refused, move-refused, point-refused, place-refused}
 use Rattle.demands.proofs.Histories.{ReadingsFit, bytes-show-demanded, fresh-bytes-keep}
 use Rattle.demands.proofs.Lent.{Lending, Within, roomAfterAll, onRun, lent-history}
 
@@ -48,27 +49,6 @@ use Rattle.demands.proofs.Lent.{Lending, Within, roomAfterAll, onRun, l
 -- a file is accepted where all rules hold, and else refused by the first that does not
 pub any-bytes : (file : List ℕ) → (checked file ≡ Done × AllHold (crestRules file)) ⊎ ((why : Refusal) × (checked file ≡ Refused why) × Cause (crestRules file) why)
 any-bytes = crest-outcome
-
-reason-numbered : (why : Reason) → (1 ≤ number why) × (number why ≤ 18)
-unfolding number
-reason-numbered byteCount = (omega arith, omega arith)
-reason-numbered checksum = (omega arith, omega arith)
-reason-numbered blockField = (omega arith, omega arith)
-reason-numbered damagedRecord = (omega arith, omega arith)
-reason-numbered laterKind = (omega arith, omega arith)
-reason-numbered fieldOutOfRange = (omega arith, omega arith)
-reason-numbered notUnit = (omega arith, omega arith)
-reason-numbered gap = (omega arith, omega arith)
-reason-numbered kink = (omega arith, omega arith)
-reason-numbered notWhole = (omega arith, omega arith)
-reason-numbered outsideFrame = (omega arith, omega arith)
-reason-numbered tooFar = (omega arith, omega arith)
-reason-numbered beforeStart = (omega arith, omega arith)
-reason-numbered afterEnd = (omega arith, omega arith)
-reason-numbered askedOutOfRange = (omega arith, omega arith)
-reason-numbered runFull = (omega arith, omega arith)
-reason-numbered recordCount = (omega arith, omega arith)
-reason-numbered wrongRoom = (omega arith, omega arith)
 
 -- whatever is refused has a number of the table
 abbrev pub Numbered : Refusal → Type 0
@@ -82,16 +62,6 @@ refused-numbered rs why e =
 
 -- ---- "any reading"
 
-located-refused : (o : Outcome) (es : List Element) (p : Point) (s : ℕ) (why : Refusal) → fromLocated (locatedIf o es p s) ≡ AnswerRefused why → o ≡ Refused why
-unfolding fromLocated locatedIf
-located-refused Done es p s why e = let z : _≡_ {A = ℕ} 0 1 = cc in absurd (omega arith)
-located-refused (Refused r) es p s why e = cc
-
-inverse-refused : (o : Outcome) (es : List Element) (s w : ℤ) (why : Refusal) → fromInverse (inverseIf o es s w) ≡ AnswerRefused why → o ≡ Refused why
-unfolding fromInverse inverseIf
-inverse-refused Done es s w why e = let z : _≡_ {A = ℕ} 0 1 = cc in absurd (omega arith)
-inverse-refused (Refused r) es s w why e = cc
-
 -- a reading is answered, or refused with a number from 1 to 15
 pub any-reading : (file : List ℕ) (r : Reading) (why : Refusal) → answerTo file r ≡ AnswerRefused why → (1 ≤ why .number) × (why .number ≤ 15)
 unfolding answerTo answerAfter locatedAfter inverseAfter shownOf
@@ -102,13 +72,13 @@ any-reading file r why e = (least r e, subst (λ (a : ReadingAnswer). shownOf a 
         let es = crestElements file in
         let p : Point = record { x = valueOf (wholeOf x); y = valueOf (wholeOf y) } in
         let rules = (crestRules file ++ numberRules x y) ++ pointRules es p (judged es p) in
-        refused-numbered rules why (located-refused (verdict rules) es p (judged es p) why e) .0
+        refused-numbered rules why (located-refused (verdict rules) es p (judged es p) why .0 (point-refused _ why .0 e)) .0
     least (LinePlace station offset) e =
         let es = crestElements file in
         let s = valueOf (wholeOf station) in
         let w = valueOf (wholeOf offset) in
         let rules = (crestRules file ++ numberRules station offset) ++ lineRules es s w in
-        refused-numbered rules why (inverse-refused (verdict rules) es s w why e) .0
+        refused-numbered rules why (inverse-refused (verdict rules) es s w why .0 (place-refused _ why .0 e)) .0
 
 -- ---- "end in an answer or a numbered refusal": the other calls by value
 
@@ -126,42 +96,32 @@ unfolding readerOutcome
 any-record file r = refused-numbered (crestRules file ++ (rule₀ askedOutOfRange (ltb r (countOf (recordBytes file))) ∷ []))
 
 -- a position, a plane point, a line place and a stake-out by value
-placed-refused : (o : Outcome) (es : List Element) (s : ℕ) (why : Refusal) → placedIf o es s ≡ PlacedRefused why → o ≡ Refused why
-unfolding placedIf
-placed-refused Done es s why e = let z : _≡_ {A = ℕ} 0 1 = cc in absurd (omega arith)
-placed-refused (Refused r) es s why e = cc
-
 pub any-position : (file : List ℕ) (s : ℤ) (why : Refusal) → placed file s ≡ PlacedRefused why → Numbered why
 unfolding placed
 any-position file s why e =
     let es = crestElements file in
     let rules = crestRules file ++ (rule₀ askedOutOfRange (isStation es s) ∷ []) in
-    refused-numbered rules why (placed-refused (verdict rules) es (natAbs s) why e)
+    refused-numbered rules why (placed-refused (verdict rules) es (natAbs s) why .0 e)
 
 pub any-point : (file : List ℕ) (p : Point) (why : Refusal) → located file p ≡ LocatedRefused why → Numbered why
-unfolding located locatedAfter fromLocated
+unfolding located locatedAfter
 any-point file p why e =
     let es = crestElements file in
     let rules = crestRules file ++ pointRules es p (judged es p) in
-    refused-numbered rules why (located-refused (verdict rules) es p (judged es p) why (ap fromLocated e))
+    refused-numbered rules why (located-refused (verdict rules) es p (judged es p) why .0 e)
 
 pub any-place : (file : List ℕ) (s w : ℤ) (why : Refusal) → inverse file s w ≡ InverseRefused why → Numbered why
-unfolding inverse inverseAfter fromInverse
+unfolding inverse inverseAfter
 any-place file s w why e =
     let es = crestElements file in
     let rules = crestRules file ++ lineRules es s w in
-    refused-numbered rules why (inverse-refused (verdict rules) es s w why (ap fromInverse e))
-
-move-refused : (o : Outcome) (own target : Point) (c s : ℤ) (why : Refusal) → moveIf o own target c s ≡ MoveRefused why → o ≡ Refused why
-unfolding moveIf moveOf
-move-refused Done own target c s why e = let z : _≡_ {A = ℕ} 0 1 = cc in absurd (omega arith)
-move-refused (Refused r) own target c s why e = cc
+    refused-numbered rules why (inverse-refused (verdict rules) es s w why .0 e)
 
 pub any-stake-out : (own target : Point) (c s : ℤ) (why : Refusal) → stakeOut own target c s ≡ MoveRefused why → Numbered why
 unfolding stakeOut
 any-stake-out own target c s why e =
     let rules = moveRules own target c s in
-    refused-numbered rules why (move-refused (verdict rules) own target c s why e)
+    refused-numbered rules why (move-refused (verdict rules) own target c s why .0 e)
 
 -- ---- "any order of calls": what each call returns and leaves, on any bytes
 
@@ -201,7 +161,7 @@ returned rs = go (verdict rs) (refused-numbered rs)
     go Done numbered = inl refl
     go (Refused why) numbered = inr (why, numbered why refl, refl)
 
-move-code : (o : Outcome) (own target : Point) (c s : ℤ) → code (paperOfMove (moveIf o own target c s)) ≡ code (paperOfOutcome o)
+pub move-code : (o : Outcome) (own target : Point) (c s : ℤ) → code (paperOfMove (moveIf o own target c s)) ≡ code (paperOfOutcome o)
 unfolding code paperOfMove paperOfOutcome moveIf moveOf
 move-code Done own target c s = refl
 move-code (Refused why) own target c s = refl

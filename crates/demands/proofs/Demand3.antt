@@ -1,10 +1,11 @@
 -- Demand 3: "For every accepted alignment and every point in the frame, the station judged is the least one of least distance, anywhere on the alignment; 12, 13 and 14
 -- are given exactly when their condition holds there; the visit count is the published walk's; what the walk leaves out lies farther."
-use mathlib.Core.Bool.{true, false, and-false}
-use mathlib.Core.List.{List, [], _∷_, _++_}
-use mathlib.Core.Logic.{_⊎_, inl, inr, _↔_}
-use mathlib.Core.Path.{_≡_, _∙_, ap, ap₂}
+use mathlib.Core.Bool.{true, false, _&&_}
+use mathlib.Core.List.{List, [], _∷_, _++_, append-assoc}
+use mathlib.Core.Logic.{_⊎_, ⊎-map, _↔_, Iff·rfl, Iff·trans, Iff·and}
+use mathlib.Core.Path.{_≡_, refl, _∙_, ap, ap₂}
 use Prim.Native.Nat.{ℕ, _+_, _*_, _≤_, _<_}
+use native.Mathlib.Omega.{arith}
 use lib.ListN.{length}
 use lib.Ieee.{Float}
 use lib.IntN.{ℤ, pos, negℤ}
@@ -17,16 +18,15 @@ use Rattle.model.specs.declared.Located.the-variants.{At as LocatedAt, Refused 
 use Rattle.model.specs.declared.Reading.the-variants.{PlanePoint, LinePlace}
 use Rattle.model.specs.declared.ReadingAnswer.the-variants.{Refused as AnswerRefused}
 use Rattle.model.specs.Series.{positionOn}
-use Rattle.model.specs.Refusals.{refusal, notWhole, tooFar, beforeStart, afterEnd, Rule, orRefused, verdict}
+use Rattle.model.specs.Refusals.{number, refusal, notWhole, tooFar, beforeStart, afterEnd, Rule, rule₀, orRefused, verdict}
 use Rattle.model.specs.Acceptance.{inFrame, checked, crestRules, crestElements}
 use Rattle.model.specs.Accepted.{Accepted, AllAccepted}
 use Rattle.model.specs.Stations.{total, distanceSq, D}
 use Rattle.model.specs.Judged.{judged, residualAt}
 use Rattle.model.specs.Walk.{firstVisits, bestOf, secondVisits, visits, isIn}
 use Rattle.model.specs.Answers.{pointRules, locatedIf, locatedAfter, locatedOn, located, lineRules, inverseIf, inverseAfter, inverse}
-use Rattle.model.specs.Readings.{whole, none, wholeOf, isWhole, valueOf, numberRules, fromLocated, fromInverse, answerAfter, answerTo}
+use Rattle.model.specs.Readings.{Whole, whole, none, wholeOf, isWhole, valueOf, numberRules, fromLocated, fromInverse, answerAfter, answerTo}
 use Rattle.model.proofs.Verdict.{verdict-after}
-use Rattle.model.proofs.Answers.{located-before, inverse-before}
 use Rattle.model.proofs.Judged.{judged-least}
 use Rattle.walk_laws.proofs.Spaced as spaced
 use Rattle.walk_laws.proofs.Walked as walked
@@ -34,6 +34,8 @@ use Rattle.alignment.proofs.AcceptCrest.{crest-accepted, crest-some}
 use Rattle.walk_laws.proofs.Crest as crest
 use Rattle.walk_laws.proofs.Outcomes.{Answered}
 use Rattle.walk_laws.proofs.Outcomes as outcomes
+use Rattle.walk_laws.proofs.Reasons.{Lacks, empty, other}
+use Rattle.demands.proofs.Orders.{and-fails, point-refused, place-refused, inverse-refused, next-after-crest}
 
 -- ---- an accepted alignment, by its elements, and any point
 
@@ -134,18 +136,21 @@ module _ (rs ss : List Rule) (e : verdict ss ≡ Done) (es : List Element) where
   unfolding inverseAfter
   held-inverse s w = ap (λ o. inverseIf o es s w) (held-between rs ss (lineRules es s w) e)
 
+not-whole : (a : Whole) → (isWhole a ≡ false) ↔ (a ≡ none)
+unfolding isWhole
+not-whole (whole n) = ((λ e. let z : _≡_ {A = ℕ} 0 1 = cc in absurd (omega arith)), (λ e. let z : _≡_ {A = ℕ} 0 1 = cc in absurd (omega arith)))
+not-whole none = ((λ e. refl), (λ e. refl))
+
+not-both-whole : (a b : Whole) → ((isWhole a && isWhole b) ≡ false) ↔ ((a ≡ none) ⊎ (b ≡ none))
+not-both-whole a b =
+    let f = not-whole a in
+    let g = not-whole b in
+    Iff·trans (and-fails (isWhole a) (isWhole b)) (⊎-map (f .0) (g .0), ⊎-map (f .1) (g .1))
+
 module _ (file : List ℕ) (x y : Float) where
   both-whole : {a b : ℤ} → wholeOf x ≡ whole a → wholeOf y ≡ whole b → verdict (numberRules x y) ≡ Done
   unfolding numberRules isWhole verdict orRefused
   both-whole p q = rw (p, q)
-
-  one-not : checked file ≡ Done → (wholeOf x ≡ none) ⊎ (wholeOf y ≡ none) → verdict (crestRules file ++ numberRules x y) ≡ Refused (refusal notWhole 0)
-  unfolding checked numberRules isWhole verdict orRefused
-  one-not e h = verdict-after (crestRules file) (numberRules x y) e ∙ go h
-    where
-      go : (wholeOf x ≡ none) ⊎ (wholeOf y ≡ none) → verdict (numberRules x y) ≡ Refused (refusal notWhole 0)
-      go (inl p) = rw p
-      go (inr p) = rw (p, and-false (isWhole (wholeOf x)))
 
   -- a plane point of two whole numbers is answered as the point of these numbers: the above holds of it
   pub point-reading : {a b : ℤ} → wholeOf x ≡ whole a → wholeOf y ≡ whole b → answerTo file (PlanePoint x y) ≡ fromLocated (located file (record { x = a; y = b }))
@@ -163,16 +168,38 @@ module _ (file : List ℕ) (x y : Float) where
       ap₂ (λ (u v : ℤ). fromInverse (inverseAfter (crestRules file ++ numberRules x y) es u v)) (ap valueOf p) (ap valueOf q)
       ∙ ap fromInverse (held-inverse (crestRules file) (numberRules x y) (both-whole p q) es a b)
 
-  -- "10 | a reading's number not finite or not whole": of either sort, on an accepted file
-  pub reading-not-whole : checked file ≡ Done → (wholeOf x ≡ none) ⊎ (wholeOf y ≡ none) →
-      (answerTo file (PlanePoint x y) ≡ AnswerRefused (refusal notWhole 0)) × (answerTo file (LinePlace x y) ≡ AnswerRefused (refusal notWhole 0))
-  unfolding answerTo answerAfter fromLocated fromInverse
-  reading-not-whole e h =
-      let before = crestRules file ++ numberRules x y in
+  given-10 : (own : List Rule) → Lacks 10 own → (verdict ((crestRules file ++ numberRules x y) ++ own) ≡ Refused (refusal notWhole 0)) ↔ ((checked file ≡ Done) × ((wholeOf x ≡ none) ⊎ (wholeOf y ≡ none)))
+  unfolding numberRules number
+  given-10 own l =
+      rw (append-assoc (crestRules file) (numberRules x y) own)
+      (Iff·trans (next-after-crest (rule₀ notWhole (isWhole (wholeOf x) && isWhole (wholeOf y))) own l file (omega arith)) (Iff·and Iff·rfl (not-both-whole (wholeOf x) (wholeOf y))))
+
+  -- "10 | a reading's number not finite or not whole": of a reading of either sort, given exactly when the file is accepted and one of its numbers is not
+  pub point-refused-10 : (answerTo file (PlanePoint x y) ≡ AnswerRefused (refusal notWhole 0)) ↔ ((checked file ≡ Done) × ((wholeOf x ≡ none) ⊎ (wholeOf y ≡ none)))
+  unfolding answerTo answerAfter locatedAfter pointRules number
+  point-refused-10 =
+      let es = crestElements file in
+      let p : Point = record { x = valueOf (wholeOf x); y = valueOf (wholeOf y) } in
+      let s = judged es p in
+      let rules = (crestRules file ++ numberRules x y) ++ pointRules es p s in
+      Iff·trans
+      (point-refused (locatedIf (verdict rules) es p s) (refusal notWhole 0))
+      (Iff·trans
+      (outcomes.located-refused (verdict rules) es p s (refusal notWhole 0))
+      (given-10 (pointRules es p s) (other (omega arith) (other (omega arith) (other (omega arith) (other (omega arith) empty))))))
+
+  pub place-refused-10 : (answerTo file (LinePlace x y) ≡ AnswerRefused (refusal notWhole 0)) ↔ ((checked file ≡ Done) × ((wholeOf x ≡ none) ⊎ (wholeOf y ≡ none)))
+  unfolding answerTo answerAfter inverseAfter lineRules number
+  place-refused-10 =
       let es = crestElements file in
       let a = valueOf (wholeOf x) in
       let b = valueOf (wholeOf y) in
-      (ap fromLocated (located-before before es (record { x = a; y = b }) (one-not e h)), ap fromInverse (inverse-before before es a b (one-not e h)))
+      let rules = (crestRules file ++ numberRules x y) ++ lineRules es a b in
+      Iff·trans
+      (place-refused (inverseIf (verdict rules) es a b) (refusal notWhole 0))
+      (Iff·trans
+      (inverse-refused (verdict rules) es a b (refusal notWhole 0))
+      (given-10 (lineRules es a b) (other (omega arith) (other (omega arith) empty))))
 
 -- ---- 5. what 2 and 3 rest on
 

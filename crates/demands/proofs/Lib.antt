@@ -9,7 +9,11 @@ pub mod WrittenThenRead
 pub mod ReadThenWritten
 pub mod WrittenBytes
 pub mod SingleByte
+-- Orders of refusals, and the answers that they come to.
+pub mod Orders
 -- The three demands.
 pub mod Demand1
 pub mod Demand2
 pub mod Demand3
+-- When each number of the table is given.
+pub mod RefusalTable

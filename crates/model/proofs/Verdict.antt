@@ -1,5 +1,5 @@
 -- An order of refusals has one outcome: the refusal of the first rule that does not hold, or none where all hold.
-use Prim.Native.Nat.{ℕ}
+use Prim.Native.Nat.{ℕ, _≤_}
 use mathlib.Core.Bool.{Bool, true, false}
 use mathlib.Core.List.{List, [], _∷_, _++_}
 use mathlib.Core.Logic.{_⊎_, inl, inr}
@@ -8,8 +8,30 @@ use native.Mathlib.Omega.{arith}
 use Rattle.model.specs.declared.Refusal.{Refusal}
 use Rattle.model.specs.declared.Outcome.{Outcome}
 use Rattle.model.specs.declared.Outcome.the-variants.{Done, Refused}
-use Rattle.model.specs.Refusals.{Reason, Rule, rule, refusal, orRefused, verdict}
+use Rattle.model.specs.Refusals.{Reason, byteCount, checksum, blockField, damagedRecord, laterKind, fieldOutOfRange, notUnit, gap, kink, notWhole, outsideFrame, tooFar, beforeStart, afterEnd, askedOutOfRange, runFull, recordCount, wrongRoom, number, Rule, refusal, orRefused, verdict}
 use Rattle.model.specs.Acceptance.{checked, crestRules}
+
+-- a number of the table is one of 1 to 18
+pub reason-numbered : (why : Reason) → (1 ≤ number why) × (number why ≤ 18)
+unfolding number
+reason-numbered byteCount = (omega arith, omega arith)
+reason-numbered checksum = (omega arith, omega arith)
+reason-numbered blockField = (omega arith, omega arith)
+reason-numbered damagedRecord = (omega arith, omega arith)
+reason-numbered laterKind = (omega arith, omega arith)
+reason-numbered fieldOutOfRange = (omega arith, omega arith)
+reason-numbered notUnit = (omega arith, omega arith)
+reason-numbered gap = (omega arith, omega arith)
+reason-numbered kink = (omega arith, omega arith)
+reason-numbered notWhole = (omega arith, omega arith)
+reason-numbered outsideFrame = (omega arith, omega arith)
+reason-numbered tooFar = (omega arith, omega arith)
+reason-numbered beforeStart = (omega arith, omega arith)
+reason-numbered afterEnd = (omega arith, omega arith)
+reason-numbered askedOutOfRange = (omega arith, omega arith)
+reason-numbered runFull = (omega arith, omega arith)
+reason-numbered recordCount = (omega arith, omega arith)
+reason-numbered wrongRoom = (omega arith, omega arith)
 
 -- every rule of the list holds
 pub data AllHold : List Rule → Type 0 where

@@ -21,18 +21,22 @@ use Rattle.walk_laws.proofs.Reasons.{Lacks, empty, other, lacks-++, lac
 
 -- ---- the crest's own refusals come first
 
-crest-lacks : (n : ℕ) → 9 < n → (file : List ℕ) → Lacks n (crestRules file)
-unfolding crestRules blocksRules recordsRules sumRules fieldRules recordRules joinRules number
+pub records-lacks : (n : ℕ) → 9 < n → (bytes : List ℕ) → Lacks n (recordsRules bytes)
+unfolding recordsRules recordRules joinRules number
+records-lacks n h bytes =
+    lacks-++
+    (lacks-forEach (λ r. other (omega arith) (other (omega arith) (other (omega arith) (other (omega arith) (other (omega arith) empty))))) (countOf bytes) 0)
+    (lacks-forEach (λ r. other (omega arith) (other (omega arith) empty)) (countOf bytes - 1) 0)
+
+pub crest-lacks : (n : ℕ) → 9 < n → (file : List ℕ) → Lacks n (crestRules file)
+unfolding crestRules blocksRules sumRules fieldRules number
 crest-lacks n h file =
-    let bytes = recordBytes file in
     lacks-++
     (other (omega arith)
     (lacks-++
     (lacks-forEach (λ b. other (omega arith) empty) (blockCount file) 0)
     (lacks-forEach (λ b. other (omega arith) empty) (blockCount file) 0)))
-    (lacks-++
-    (lacks-forEach (λ r. other (omega arith) (other (omega arith) (other (omega arith) (other (omega arith) (other (omega arith) empty))))) (countOf bytes) 0)
-    (lacks-forEach (λ r. other (omega arith) (other (omega arith) empty)) (countOf bytes - 1) 0))
+    (records-lacks n h (recordBytes file))
 
 crest-up-to-9 : (file : List ℕ) (w : Refusal) → checked file ≡ Refused w → 9 < w .number → ⊥
 unfolding checked

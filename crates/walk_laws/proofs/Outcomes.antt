@@ -68,7 +68,7 @@ holds-unless false f = ((λ e. let z : _≡_ {A = ℕ} 0 1 = cc in absurd (omega
 
 -- ---- from the verdict to the answer
 
-located-refused : (o : Outcome) (es : List Element) (p : Point) (s : ℕ) (w : Refusal) → (locatedIf o es p s ≡ LocatedRefused w) ↔ (o ≡ Refused w)
+pub located-refused : (o : Outcome) (es : List Element) (p : Point) (s : ℕ) (w : Refusal) → (locatedIf o es p s ≡ LocatedRefused w) ↔ (o ≡ Refused w)
 unfolding locatedIf
 located-refused Done es p s w = ((λ e. let z : _≡_ {A = ℕ} 0 1 = cc in absurd (omega arith)), (λ e. let z : _≡_ {A = ℕ} 0 1 = cc in absurd (omega arith)))
 located-refused (Refused r) es p s w = ((λ e. cc), (λ e. cc))

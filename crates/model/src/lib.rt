@@ -136,3 +136,9 @@ pub struct Run {
     pub two: i32,
     pub three: i32,
 }
+
+// What a reading on a run came to, and the run afterwards.
+pub struct Noted {
+    pub answer: ReadingAnswer,
+    pub run: Run,
+}

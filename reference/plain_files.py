@@ -26,8 +26,7 @@ def raw_file(elements):
 
 def sealed(file):
     """The file with A and B made good in every block."""
-    blocks = [bytes(file[at : at + 512]) for at in range(0, len(file), 512)]
-    return b"".join(block[:508] + struct.pack("<HH", *crest.sums(block)) for block in blocks)
+    return b"".join(block[:508] + struct.pack("<HH", *crest.sums(block)) for block in crest.blocks_of(file))
 
 
 def patched(file, at, data):

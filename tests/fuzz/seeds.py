@@ -20,11 +20,6 @@ CHECK, WRITE, PLANE, LINE, ACKNOWLEDGE, RUN, STAKE_OUT = 0, 1, 2, 4, 6, 7, 8
 POSITION, LOCATE, INVERSE = 10, 11, 12
 
 
-def records_in(file):
-    blocks = [file[at : at + 512] for at in range(0, len(file), 512)]
-    return b"".join(block[: 32 * struct.unpack_from("<H", block, 482)[0]] for block in blocks)
-
-
 def damage(rng, file):
     """A few bytes changed, and which blocks' sums are made right."""
     changes = [struct.pack("<HB", rng.randrange(len(file)), rng.randrange(256)) for _ in range(rng.randrange(4))]
@@ -60,7 +55,7 @@ def seeds(rng):
     crests = [(example, crest.check(example))]
     crests += [random_file(rng, Wish(count, longest=longest)) for count in COUNTS for longest in (20, 600)]
     for file, alignment in crests:
-        records = records_in(file)
+        records = crest.used_records(crest.blocks_of(file))
         for form in (
             b"\0" + struct.pack("<H", len(file)) + file,
             b"\1" + struct.pack("<H", len(records)) + records,

@@ -30,10 +30,11 @@
 //!     8 | 9   crest_stake_out: 8 with six i32 of 4 bytes each, 9 with Random::own_and_target and Random::heading
 //!     10      probe_position
 //!     11      probe_locate
-//!     12      probe_inverse; the probes by a choice of 2 with numbers of 4 bytes each or those of Random
+//!     12      probe_inverse; the probes by a choice of 2 with numbers of 4 bytes each or those of Random, the inverse's
+//!             station and offset by one each
 //!
 //! 3, 5 and the probes' numbers of Random are taken near the crest before its damage; where it was not accepted, numbers are
-//! of 4 or 8 bytes and there is no choice of 2.
+//! of 4 or 8 bytes and there is no choice of 2 but that of the offset.
 //!
 //! After a call's numbers, what it is lent, in this order: the room of stake-out or a probe, by a choice of 4: a length below
 //! 64, Random::lent, or else of the size asked for, and but for Random::lent a byte that its content begins with; a choice of 16

@@ -7,8 +7,9 @@ use lib.IntN.{ℤ, pos, natAbs}
 use Rattle.model.specs.declared.Kind.{Kind}
 use Rattle.model.specs.declared.Kind.the-variants.{Line, Arc, EntrySpiral, ExitSpiral}
 use Rattle.model.specs.declared.Element.{Element}
+use Rattle.model.specs.Acceptance.{longestElement, widest}
 use Rattle.model.specs.Rounding.{ONE, near}
-use Rattle.model.specs.Series.{Series, arcSeries, spiralSeries, Local, seriesAlong, seriesAside, signedBy, angleOf, localOf, fromAnchor, lengthAt, angleAt, localAt}
+use Rattle.model.specs.Series.{Series, arcSeries, spiralSeries, seriesAlong, seriesAside, signedBy, angleOf, localOf, fromAnchor, lengthAt, angleAt, localAt}
 use Rattle.model.specs.Accepted.{Accepted}
 use Rattle.model.proofs.Accepted.{RadiusFits, numbers}
 use Rattle.elements.specs.declared.Prepared.{Prepared}
@@ -17,27 +18,29 @@ use Rattle.elements.specs.Prepared.{divisorOf, backward, preparedOf, Rea
 use Rattle.elements.specs.Reached.{Curved, SeriesAt, Reached}
 use Rattle.elements.specs.declared.series.Reach.{Reach}
 use Rattle.elements.proofs.Signed.{signed-by, sign-small, sign-zero}
-use Rattle.elements.proofs.Extent.{magnitude-at-most, angle-within, spiral-angle-within}
+use Rattle.elements.proofs.Angle.{angleAt-within}
+use Rattle.elements.proofs.Extent.{magnitude-at-most}
 use Rattle.elements.proofs.Steps.{near-magnitude, near-even}
 
 pub ready : {e : Element} → Accepted e → Ready (preparedOf e)
 unfolding preparedOf
 ready a = record { accepted = a; prepared = refl }
 
+-- what is prepared of an element is that element's
+pub prepared-element : (e : Element) {p : Prepared} → p ≡ preparedOf e → p .element ≡ e
+unfolding preparedOf
+prepared-element e q = ap (λ (p : Prepared). p .element) q
+
 -- ---- what a kind says
 
-pub radius-on : {e : Element} (k : Kind) → e .kind ≡ k → Accepted e → RadiusFits k (e .length) (natAbs (e .radius))
+radius-on : {e : Element} (k : Kind) → e .kind ≡ k → Accepted e → RadiusFits k (e .length) (natAbs (e .radius))
 radius-on {e} k h a = subst (λ x. RadiusFits x (e .length) (natAbs (e .radius))) h (numbers a .radius)
 
-pub angle-on : (e : Element) (k : Kind) → e .kind ≡ k → (s : ℕ) → angleOf k (e .radius) (e .length) (fromAnchor k (e .length) s) ≡ angleAt e s
+angle-on : (e : Element) (k : Kind) → e .kind ≡ k → (s : ℕ) → angleOf k (e .radius) (e .length) (fromAnchor k (e .length) s) ≡ angleAt e s
 unfolding angleAt lengthAt
 angle-on e k h s = sym (ap (λ x. angleOf x (e .radius) (e .length) (fromAnchor x (e .length) s)) h)
 
-pub local-on : (e : Element) (k : Kind) → e .kind ≡ k → (s : ℕ) → localOf k (fromAnchor k (e .length) s) (angleAt e s) ≡ localAt e s
-unfolding localAt lengthAt
-local-on e k h s = sym (ap (λ x. localOf x (fromAnchor x (e .length) s) (angleAt e s)) h)
-
-pub radius-within : (k : Kind) (length : ℕ) {radius : ℕ} → RadiusFits k length radius → radius ≤ 10000000
+pub radius-within : (k : Kind) (length : ℕ) {radius : ℕ} → RadiusFits k length radius → radius ≤ widest
 unfolding RadiusFits
 radius-within Line length r = omega arith
 radius-within Arc length r = r .1
@@ -52,22 +55,36 @@ sign-fits Arc r s h = omega arith
 sign-fits EntrySpiral {length = l} {radius} r s h = omega (arith, mul-assoc 2 radius l, mul-le-mul {n₁ = radius} {m₁ = 1} {n₂ = radius} {m₂ = l} (omega arith) h)
 sign-fits ExitSpiral {length = l} {radius} r s h = omega (arith, mul-assoc 2 radius l, mul-le-mul {n₁ = radius} {m₁ = 1} {n₂ = radius} {m₂ = l} (omega arith) h)
 
--- k is a curve with the series K: u and v at l mm, and the sign of u
-pub record CurveOf (k : Kind) (K : Series) : Type 0 where
-  pub along : (l : ℕ) (t : ℤ) → withSign (backward k) (seriesAlong K l t) ≡ localOf k l t .along
-  pub aside : (l : ℕ) (t : ℤ) → seriesAside K l t ≡ localOf k l t .aside
+-- the two kinds of spiral, and the length from the straight end at s: s itself, or what is left
+pub data Spiral (k : Kind) (length s : ℕ) : ℕ → Type 0 where
+  entry : k ≡ EntrySpiral → Spiral k length s s
+  exit : k ≡ ExitSpiral → Spiral k length s (length - s)
 
-pub arc-curve : CurveOf Arc arcSeries
-unfolding localOf backward withSign
-arc-curve = record { along = λ l t. refl; aside = λ l t. refl }
+-- the kinds that turn, each with its series and the length that the series takes at s
+pub data Curve (k : Kind) (length s : ℕ) : Series → ℕ → Type 0 where
+  arc : k ≡ Arc → Curve k length s arcSeries s
+  spiral : {l : ℕ} → Spiral k length s l → Curve k length s spiralSeries l
 
-pub entry-curve : CurveOf EntrySpiral spiralSeries
-unfolding localOf backward withSign
-entry-curve = record { along = λ l t. refl; aside = λ l t. refl }
+spiral-within : {k : Kind} {length s l : ℕ} → Spiral k length s l → s ≤ length → l ≤ length
+spiral-within (entry k) h = h
+spiral-within (exit k) h = omega arith
 
-pub exit-curve : CurveOf ExitSpiral spiralSeries
-unfolding localOf backward withSign
-exit-curve = record { along = λ l t. refl; aside = λ l t. refl }
+curve-within : {k : Kind} {length s l : ℕ} {K : Series} → Curve k length s K l → s ≤ length → l ≤ length
+curve-within (arc k) h = h
+curve-within (spiral w) h = spiral-within w h
+
+module _ (e : Element) (s : ℕ) where
+  curve-along : {l : ℕ} {K : Series} → Curve (e .kind) (e .length) s K l → withSign (backward (e .kind)) (seriesAlong K l (angleAt e s)) ≡ localAt e s .along
+  unfolding localAt lengthAt localOf fromAnchor backward withSign
+  curve-along (arc k) = rw k
+  curve-along (spiral (entry k)) = rw k
+  curve-along (spiral (exit k)) = rw k
+
+  curve-aside : {l : ℕ} {K : Series} → Curve (e .kind) (e .length) s K l → seriesAside K l (angleAt e s) ≡ localAt e s .aside
+  unfolding localAt lengthAt localOf fromAnchor
+  curve-aside (arc k) = rw k
+  curve-aside (spiral (entry k)) = rw k
+  curve-aside (spiral (exit k)) = rw k
 
 -- ---- the angle
 
@@ -115,14 +132,14 @@ module _ (p : Prepared) (y : Ready p) where
     unfolding divisorOf
     arc-divisor = divisor-is Arc k
 
-    arc-radius : (2 * e .length ≤ radius) × (radius ≤ 10000000)
+    arc-radius : (2 * e .length ≤ radius) × (radius ≤ widest)
     unfolding RadiusFits
     arc-radius = radius-on Arc k (y .accepted)
 
     arc-half : p .half ≡ radius - p .negative
     arc-half = omega (arith, half-is, arc-divisor)
 
-    pub arc-asks : (s ≤ 500000) × (p .half ≤ 10000000) × (1 ≤ p .divisor)
+    pub arc-asks : (s ≤ longestElement) × (p .half ≤ widest) × (1 ≤ p .divisor)
     arc-asks = omega (arith, numbers (y .accepted) .longest, numbers (y .accepted) .shortest, arc-half, arc-divisor, arc-radius)
 
     arc-near : withSign (p .negative) (pos arcAngle) ≡ near (withSign (p .negative) (pos (ONE * s))) radius
@@ -134,27 +151,16 @@ module _ (p : Prepared) (y : Ready p) where
     unfolding angleOf fromAnchor
     arc-angle-is = arc-near ∙ ap (λ (z : ℤ). near z radius) (sym (signed (ONE * s))) ∙ angle-on e Arc k s
 
-    pub arc-curved : Curved s arcAngle (p .negative)
-    arc-curved =
-        record {
-          longest = arc-asks .0;
-          widest = magnitude-at-most (p .negative) arcAngle arc-angle-is (angle-within (y .accepted) h);
-          sign = sign-at-most;
-        }
-
   -- what the two kinds of spiral share
-  pub record OnSpiral : Type 0 where
-    pub divisor : p .divisor ≡ 2 * radius * e .length
-    pub tightest : e .length ≤ radius
-    pub widest : radius ≤ 10000000
+  record OnSpiral : Type 0 where
+    divisor : p .divisor ≡ 2 * radius * e .length
+    tightest : e .length ≤ radius
+    flattest : radius ≤ widest
 
-  pub on-entry : e .kind ≡ EntrySpiral → OnSpiral
+  on-spiral : {s l : ℕ} → Spiral (e .kind) (e .length) s l → OnSpiral
   unfolding divisorOf RadiusFits
-  on-entry k = let r = radius-on EntrySpiral k (y .accepted) in record { divisor = divisor-is EntrySpiral k; tightest = r .0; widest = r .1 }
-
-  pub on-exit : e .kind ≡ ExitSpiral → OnSpiral
-  unfolding divisorOf RadiusFits
-  on-exit k = let r = radius-on ExitSpiral k (y .accepted) in record { divisor = divisor-is ExitSpiral k; tightest = r .0; widest = r .1 }
+  on-spiral (entry k) = let r = radius-on EntrySpiral k (y .accepted) in record { divisor = divisor-is EntrySpiral k; tightest = r .0; flattest = r .1 }
+  on-spiral (exit k) = let r = radius-on ExitSpiral k (y .accepted) in record { divisor = divisor-is ExitSpiral k; tightest = r .0; flattest = r .1 }
 
   -- at l mm from the straight end
   module _ (o : OnSpiral) (l : ℕ) (h : l ≤ e .length) where
@@ -164,8 +170,8 @@ module _ (p : Prepared) (y : Ready p) where
     spiral-square : l * l ≤ radius * e .length
     spiral-square = mul-le-mul {n₁ = l} {m₁ = l} {n₂ = radius} {m₂ = e .length} (omega (arith, o .tightest)) h
 
-    spiral-product : radius * e .length ≤ 10000000 * 500000
-    spiral-product = mul-le-mul {n₁ = radius} {m₁ = e .length} {n₂ = 10000000} {m₂ = 500000} (o .widest) (numbers (y .accepted) .longest)
+    spiral-product : radius * e .length ≤ widest * longestElement
+    spiral-product = mul-le-mul {n₁ = radius} {m₁ = e .length} {n₂ = widest} {m₂ = longestElement} (o .flattest) (numbers (y .accepted) .longest)
 
     spiral-positive : 1 * 1 ≤ radius * e .length
     spiral-positive = mul-le-mul {n₁ = 1} {m₁ = 1} {n₂ = radius} {m₂ = e .length} (omega (arith, o .tightest, numbers (y .accepted) .shortest)) (numbers (y .accepted) .shortest)
@@ -173,8 +179,8 @@ module _ (p : Prepared) (y : Ready p) where
     twice : p .divisor ≡ 2 * (radius * e .length)
     twice = o .divisor ∙ mul-assoc 2 radius (e .length)
 
-    pub spiral-asks : (l ≤ 500000) × (p .half < 2 ^ 44) × (1 ≤ p .divisor) × (p .divisor < 2 ^ 44) × (l * l ≤ p .divisor)
-    spiral-asks = omega (arith, numbers (y .accepted) .longest, half-is, twice, spiral-square, spiral-product, spiral-positive)
+    spiral-ranges : (l ≤ longestElement) × (p .half < 2 ^ 44) × (1 ≤ p .divisor) × (p .divisor < 2 ^ 44) × (l * l ≤ p .divisor)
+    spiral-ranges = omega (arith, numbers (y .accepted) .longest, half-is, twice, spiral-square, spiral-product, spiral-positive)
 
     spiral-near : withSign (p .negative) (pos spiralAngle) ≡ near (withSign (p .negative) (pos (ONE * (l * l)))) (p .divisor)
     spiral-near =
@@ -184,49 +190,42 @@ module _ (p : Prepared) (y : Ready p) where
     spiral-angle-near : withSign (p .negative) (pos spiralAngle) ≡ near (signedBy (e .radius) (ONE * (l * l))) (2 * radius * e .length)
     spiral-angle-near = spiral-near ∙ ap₂ (λ (z : ℤ) (x : ℕ). near z x) (sym (signed (ONE * (l * l)))) (o .divisor)
 
-    pub spiral-curved : Curved l spiralAngle (p .negative)
-    spiral-curved =
-        record {
-          longest = spiral-asks .0;
-          widest =
-              magnitude-at-most (p .negative) spiralAngle spiral-angle-near
-              (spiral-angle-within (e .radius) (e .length) l (numbers (y .accepted) .shortest) h (o .tightest));
-          sign = sign-at-most;
-        }
-
-  pub entry-angle-is : (k : e .kind ≡ EntrySpiral) (s : ℕ) (h : s ≤ e .length) → withSign (p .negative) (pos (spiralAngle (on-entry k) s h)) ≡ angleAt e s
+  spiral-of : {s l : ℕ} → Spiral (e .kind) (e .length) s l → near (signedBy (e .radius) (ONE * (l * l))) (2 * radius * e .length) ≡ angleAt e s
   unfolding angleOf fromAnchor
-  entry-angle-is k s h = spiral-angle-near (on-entry k) s h ∙ angle-on e EntrySpiral k s
+  spiral-of {s = s} (entry k) = angle-on e EntrySpiral k s
+  spiral-of {s = s} (exit k) = angle-on e ExitSpiral k s
 
-  pub exit-angle-is : (k : e .kind ≡ ExitSpiral) (s : ℕ) (h : e .length - s ≤ e .length) → withSign (p .negative) (pos (spiralAngle (on-exit k) (e .length - s) h)) ≡ angleAt e s
-  unfolding angleOf fromAnchor
-  exit-angle-is k s h = spiral-angle-near (on-exit k) (e .length - s) h ∙ angle-on e ExitSpiral k s
+  module _ {s l : ℕ} (h : s ≤ e .length) (w : Spiral (e .kind) (e .length) s l) where
+    pub spiral-asks : (l ≤ longestElement) × (p .half < 2 ^ 44) × (1 ≤ p .divisor) × (p .divisor < 2 ^ 44) × (l * l ≤ p .divisor)
+    spiral-asks = spiral-ranges (on-spiral w) l (spiral-within w h)
+
+    pub spiral-angle-is : withSign (p .negative) (pos ((ONE * (l * l) + p .half) / p .divisor)) ≡ angleAt e s
+    spiral-angle-is = spiral-angle-near (on-spiral w) l (spiral-within w h) ∙ spiral-of w
 
   -- ---- u and v
 
-  pub reached : {k : Kind} {K : Series} (s l angle : ℕ) {r : Reach} → CurveOf k K → e .kind ≡ k → fromAnchor k (e .length) s ≡ l → withSign (p .negative) (pos angle) ≡ angleAt e s → SeriesAt K l angle (p .negative) r → Reached e s r
-  reached {k} {K} s l angle {r} curve h f t a =
-      let local : localOf k l (angleAt e s) ≡ localAt e s = ap (λ (x : ℕ). localOf k x (angleAt e s)) (sym f) ∙ local-on e k h s in
-      record {
-        turned = ap₂ (λ (x y : ℕ). withSign x (pos y)) (sym negative-is) (a .turned) ∙ t;
-        along =
-            ap₂ (λ (x : Kind) (z : ℤ). withSign (backward x) z) h (a .along ∙ ap (seriesAlong K l) t)
-            ∙ curve .along l (angleAt e s)
-            ∙ ap (λ (x : Local). x .along) local;
-        aside =
-            ap (λ (x : ℕ). withSign x (pos (r .aside))) (sym negative-is)
-            ∙ a .aside
-            ∙ ap (seriesAside K l) t
-            ∙ curve .aside l (angleAt e s)
-            ∙ ap (λ (x : Local). x .aside) local;
-      }
+  module _ {s : ℕ} (h : s ≤ e .length) {l : ℕ} {K : Series} (w : Curve (e .kind) (e .length) s K l) {angle : ℕ} (t : withSign (p .negative) (pos angle) ≡ angleAt e s) where
+    pub curved : Curved l angle (p .negative)
+    curved =
+        record {
+          longest = omega (arith, curve-within w h, numbers (y .accepted) .longest);
+          widest = magnitude-at-most (p .negative) angle t (angleAt-within e (y .accepted) s h);
+          sign = sign-at-most;
+        }
+
+    pub reached : {r : Reach} → SeriesAt K l angle (p .negative) r → Reached e s r
+    reached {r} a =
+        record {
+          turned = ap₂ (λ (x y : ℕ). withSign x (pos y)) (sym negative-is) (a .turned) ∙ t;
+          along = ap (withSign (backward (e .kind))) (a .along ∙ ap (seriesAlong K l) t) ∙ curve-along e s w;
+          aside = ap (λ (x : ℕ). withSign x (pos (r .aside))) (sym negative-is) ∙ a .aside ∙ ap (seriesAside K l) t ∙ curve-aside e s w;
+        }
 
   pub reached-line : (s : ℕ) → e .kind ≡ Line → Reached e s (record { angle = 0; along = 100 * s; aside = 0 })
-  unfolding localOf angleOf fromAnchor backward withSign
+  unfolding localAt lengthAt localOf angleOf fromAnchor backward withSign
   reached-line s h =
-      let local = local-on e Line h s in
       record {
         turned = sign-zero (signOf (e .radius)) ∙ angle-on e Line h s;
-        along = ap (λ (x : Kind). withSign (backward x) (pos (100 * s))) h ∙ ap (λ (x : Local). x .along) local;
-        aside = sign-zero (signOf (e .radius)) ∙ ap (λ (x : Local). x .aside) local;
+        along = rw h;
+        aside = sign-zero (signOf (e .radius)) ∙ rw h;
       }

@@ -13,6 +13,7 @@ use Rattle.model.specs.declared.Kind.{Kind}
 use Rattle.model.specs.declared.Kind.the-variants.{Line, Arc, EntrySpiral, ExitSpiral}
 use Rattle.model.specs.declared.Element.{Element}
 use Rattle.model.specs.Rounding.{ONE, near}
+use Rattle.model.specs.Acceptance.{frame}
 use Rattle.model.specs.Series.{cosine, sine, angleOf, directionOf, lengthAt, angleAt, directionAt, turned, movedBy, positionOn, tangentOn}
 use Rattle.model.specs.Accepted.{Accepted}
 use Rattle.elements.specs.declared.Prepared.{Prepared}
@@ -21,7 +22,7 @@ use Rattle.elements.specs.declared.series.Turn.{Turn}
 use Rattle.elements.specs.Signs.{withSign, signOf}
 use Rattle.elements.specs.Prepared.{backward, preparedOf, Ready}
 use Rattle.elements.specs.Reached.{Turnable, Near, TurnAt, Reached, pointOf, headingOf}
-use Rattle.elements.proofs.Widths.{held, held-small}
+use Rattle.elements.proofs.Widths.{held, held-small, held-as}
 use Rattle.elements.proofs.Signed.{natAbs-sign, *ℤ-sign, sign-*ℤ, sign-move}
 use Rattle.elements.proofs.Extent.{magnitude-at-most, unit-within, unit-within′, cosine-within, sine-within, extent}
 use Rattle.elements.proofs.Preparing.{negative-is}
@@ -35,22 +36,24 @@ module _ (x a : ℤ) (u : ℕ) (b : ℤ) (v : ℕ) (t : Turnable x a u b v) wher
   held-a : held a ≡ a
   held-a = held-small a (omega (arith, t .first))
 
-  held-b : held b ≡ b
-  held-b = held-small b (omega (arith, t .second))
+  -- where the second component comes as z
+  module _ {z : ℤ} (i : z ≡ b) where
+    held-b : held z ≡ b
+    held-b = held-as i (omega (arith, t .second))
 
-  pub turnable-held : Turnable (held x) (held a) u (held b) v
-  turnable-held =
-      record {
-        anchor = subst (λ (z : ℤ). natAbs z ≤ 200000000) (sym held-x) (t .anchor);
-        first = subst (λ (z : ℤ). natAbs z ≤ ONE) (sym held-a) (t .first);
-        second = subst (λ (z : ℤ). natAbs z ≤ ONE) (sym held-b) (t .second);
-        along = t .along;
-        aside = t .aside;
-      }
+    pub turnable-held : Turnable (held x) (held a) u (held z) v
+    turnable-held =
+        record {
+          anchor = subst (λ (y : ℤ). natAbs y ≤ frame) (sym held-x) (t .anchor);
+          first = subst (λ (y : ℤ). natAbs y ≤ ONE) (sym held-a) (t .first);
+          second = subst (λ (y : ℤ). natAbs y ≤ ONE) (sym held-b) (t .second);
+          along = t .along;
+          aside = t .aside;
+        }
 
-  pub turned-held : {r : ℤ} → SFits w64 r → r ≡ held x +ℤ near (held a *ℤ pos u +ℤ held b *ℤ pos v) ONE → held r ≡ x +ℤ near (a *ℤ pos u +ℤ b *ℤ pos v) ONE
-  turned-held f e =
-      toZ-ofZ f ∙ e ∙ ap₂ (λ (y z : ℤ). y +ℤ near z ONE) held-x (ap₂ (λ (y z : ℤ). y *ℤ pos u +ℤ z *ℤ pos v) held-a held-b)
+    pub turned-held : {r : ℤ} → SFits w64 r → r ≡ held x +ℤ near (held a *ℤ pos u +ℤ held z *ℤ pos v) ONE → held r ≡ x +ℤ near (a *ℤ pos u +ℤ b *ℤ pos v) ONE
+    turned-held f e =
+        toZ-ofZ f ∙ e ∙ ap₂ (λ (y z : ℤ). y +ℤ near z ONE) held-x (ap₂ (λ (y z : ℤ). y *ℤ pos u +ℤ z *ℤ pos v) held-a held-b)
 
 -- ---- the axes
 
@@ -95,10 +98,10 @@ module _ (p : Prepared) (y : Ready p) where
   s-within : natAbs (e .s) ≤ ONE
   s-within = unit-within′ (e .c) (e .s) (numbers (y .accepted) .unit)
 
-  pub ux-within : natAbs (p .ux) ≤ ONE
+  ux-within : natAbs (p .ux) ≤ ONE
   ux-within = axis-within back (e .c) ux-is c-within
 
-  pub uy-within : natAbs (p .uy) ≤ ONE
+  uy-within : natAbs (p .uy) ≤ ONE
   uy-within = axis-within back (e .s) uy-is s-within
 
   pub vx-within : natAbs (p .vx) ≤ ONE

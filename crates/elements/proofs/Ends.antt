@@ -2,7 +2,7 @@
 -- record, with nothing lost to rounding. So a join is judged at an anchor on one side wherever an element starts that is no exit spiral.
 use Prim.Native.Nat.{ℕ, _*_, _≤_}
 use mathlib.Core.Path.{_≡_, refl, sym, _∙_, ap, ap₂}
-use native.Mathlib.Nat.{mul-le-mul, mul-assoc}
+use native.Mathlib.Nat.{mul-pos}
 use native.Mathlib.Omega.{arith}
 use lib.IntN.{ℤ, pos, negsuc, natAbs, _+ℤ_, _-ℤ_, _*ℤ_, zero-*ℤ, *ℤ-zero, *ℤ-comm, +ℤ-idr}
 use Rattle.model.specs.declared.Kind.{Kind}
@@ -25,15 +25,12 @@ signed-0 (negsuc r) = refl
 near-0 : (r : ℤ) {d : ℕ} → 1 ≤ d → near (signedBy r 0) d ≡ pos 0
 near-0 r {d} h = ap (λ n. near n d) (signed-0 r ∙ sym (zero-*ℤ (pos d)) ∙ *ℤ-comm (pos 0) (pos d)) ∙ near-multiple h (pos 0)
 
-product : {a b : ℕ} → 1 ≤ a → 1 ≤ b → 1 ≤ 2 * a * b
-product {a} {b} h k = omega (arith, mul-assoc 2 a b, mul-le-mul {n₁ = 1} {m₁ = 1} {n₂ = a} {m₂ = b} h k)
-
 no-turn : (k : Kind) (r : ℤ) (length : ℕ) → 1 ≤ length → RadiusFits k length (natAbs r) → angleOf k r length 0 ≡ pos 0
 unfolding angleOf RadiusFits
 no-turn Line r length h f = refl
 no-turn Arc r length h f = near-0 r (omega (arith, f .0))
-no-turn EntrySpiral r length h f = near-0 r (product (omega (arith, f .0)) h)
-no-turn ExitSpiral r length h f = near-0 r (product (omega (arith, f .0)) h)
+no-turn EntrySpiral r length h f = near-0 r (mul-pos {m = 2 * natAbs r} {n = length} (omega (arith, f .0)) h)
+no-turn ExitSpiral r length h f = near-0 r (mul-pos {m = 2 * natAbs r} {n = length} (omega (arith, f .0)) h)
 
 -- ---- the element's own frame
 

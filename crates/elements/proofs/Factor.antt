@@ -36,10 +36,10 @@ scale-positive h = mul-pos (h .first) (omega arith)
 -- ---- the ranges
 
 module _ {f : Factor} (h : Proper f) {p : ℤ} (square : Square p) where
-  pub 0≤-inner : pos 0 ≤ℤ inner f p
+  0≤-inner : pos 0 ≤ℤ inner f p
   0≤-inner = 0≤-near (h .over) (0≤-mul (0≤-pos (f .b)) (square .low))
 
-  pub inner-within : natAbs (inner f p) ≤ 2 ^ 28
+  inner-within : natAbs (inner f p) ≤ 2 ^ 28
   inner-within = near-within (h .over) (pos (f .b) *ℤ p) (le-trans (le-of-eq (natAbs-* (pos (f .b)) p)) (mul-le-mul (h .under) (square .high)))
 
   0≤-rest : pos 0 ≤ℤ (pos ONE -ℤ inner f p)
@@ -48,19 +48,19 @@ module _ {f : Factor} (h : Proper f) {p : ℤ} (square : Square p) where
   rest-within : natAbs (pos ONE -ℤ inner f p) ≤ ONE
   rest-within = omega (order, difference (pos ONE) (inner f p), parts (inner f p), parts (pos ONE -ℤ inner f p), 0≤-inner, inner-within)
 
-  pub 0≤-outer : pos 0 ≤ℤ outer f p
+  0≤-outer : pos 0 ≤ℤ outer f p
   0≤-outer = 0≤-near (scale-positive h) (0≤-mul (square .low) 0≤-rest)
 
-  pub outer-within : natAbs (outer f p) ≤ 2 ^ 28
+  outer-within : natAbs (outer f p) ≤ 2 ^ 28
   outer-within =
       near-within (scale-positive h) (p *ℤ (pos ONE -ℤ inner f p))
       (omega (arith, natAbs-* p (pos ONE -ℤ inner f p), mul-le-mul (square .high) rest-within, h .first))
 
-  pub 0≤-F : pos 0 ≤ℤ F f p
+  0≤-F : pos 0 ≤ℤ F f p
   unfolding F
   0≤-F = omega (order, difference (pos ONE) (outer f p), parts (outer f p), outer-within)
 
-  pub F≤ONE : F f p ≤ℤ pos ONE
+  F≤ONE : F f p ≤ℤ pos ONE
   unfolding F
   F≤ONE = omega (order, difference (pos ONE) (outer f p), 0≤-outer)
 

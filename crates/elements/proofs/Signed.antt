@@ -34,7 +34,7 @@ sign-*ℤ (suc n) a b = neg-*ℤ a b
 pub sign-move : (sign : ℕ) (a b : ℤ) → withSign sign a *ℤ b ≡ a *ℤ withSign sign b
 sign-move sign a b = sign-*ℤ sign a b ∙ sym (*ℤ-sign sign a b)
 
-pub sign-sign : (sign : ℕ) (z : ℤ) → withSign sign (withSign sign z) ≡ z
+sign-sign : (sign : ℕ) (z : ℤ) → withSign sign (withSign sign z) ≡ z
 unfolding withSign
 sign-sign zero z = refl
 sign-sign (suc n) z = negℤ-negℤ z
@@ -92,7 +92,7 @@ pub 0≤-nonNeg : {z : ℤ} → pos 0 ≤ℤ z → T (nonNeg z)
 pub 0≤-neg : {z : ℤ} → z <ℤ pos 0 → pos 0 ≤ℤ negℤ z
 0≤-neg {z} h = omega (order, negation z)
 
-pub with-sign-1 : {sign : ℕ} (z : ℤ) → (sign ≡ 0 → ⊥) → negℤ z ≡ withSign sign z
+pub neg-with-sign : {sign : ℕ} (z : ℤ) → (sign ≡ 0 → ⊥) → negℤ z ≡ withSign sign z
 unfolding withSign
-with-sign-1 {sign = zero} z h = absurd (h refl)
-with-sign-1 {sign = suc n} z h = refl
+neg-with-sign {sign = zero} z h = absurd (h refl)
+neg-with-sign {sign = suc n} z h = refl

@@ -57,7 +57,7 @@ factor-step f p x y hx hy ex ey =
     ∙ ap (λ z. pos ONE -ℤ z) (ey ∙ ap (λ z. near (pos p *ℤ z) (f .a * ONE)) (pos-sub hx ∙ ap (λ z. pos ONE -ℤ z) ex))
 
 -- the square does not see the sign
-pub square-sign : (sign angle : ℕ) → squareOf (pos angle) ≡ squareOf (withSign sign (pos angle))
+square-sign : (sign angle : ℕ) → squareOf (pos angle) ≡ squareOf (withSign sign (pos angle))
 unfolding squareOf
 square-sign sign angle = ap (λ z. near z ONE) (sym (sign-square sign (pos angle)))
 

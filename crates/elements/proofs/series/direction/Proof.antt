@@ -1,4 +1,4 @@
--- `elements::series::direction` meets its contract.
+-- `elements::series::direction` meets its contract: both factors are those of the square, which does not see the sign of the angle.
 use Prim.Native.Nat.{_*_, _^_, _≤_}
 use native.Mathlib.Omega.{arith}
 use native.Mathlib.Nat.{mul-le-mul}

@@ -11,12 +11,8 @@ use Rattle.elements.proofs.Steps.{factor-step}
 use Rattle.elements.proofs.series.factor_of.Statement.{statement}
 use Rattle.elements.proofs.series.factor_of.Tie as tie
 
-module _ (c : tie.Start) where
-  inner-product : c .args .b * c .args .square ≤ c .args .d * ONE
-  inner-product = mul-le-mul (c .pre .ratio) (c .pre .small)
-
-  inner-small : c .args .d * ONE ≤ 220 * ONE
-  inner-small = omega arith
+inner-product : (c : tie.Start) → c .args .b * c .args .square ≤ c .args .d * ONE
+inner-product c = mul-le-mul (c .pre .ratio) (c .pre .small)
 
 module _ (c : tie.After-near-even) where
   quotient-small : c .near-even .result ≤ ONE

@@ -1,4 +1,4 @@
--- `elements::signs::magnitude` meets its contract.
+-- `elements::signs::magnitude` meets its contract: what is cast is not negative, and its absolute value is that of z.
 use mathlib.Core.Path.{_≡_, _∙_, ap}
 use mathlib.Core.List.{[], _∷_}
 use Prim.Native.Nat.{_^_}

@@ -5,13 +5,14 @@ use lib.IntN.{pos, natAbs, _-ℤ_, _*ℤ_, negℤ-negℤ}
 use Rattle.model.specs.declared.Kind.{Kind}
 use Rattle.model.specs.declared.Kind.the-variants.{Line, Arc, EntrySpiral, ExitSpiral}
 use Rattle.model.specs.declared.Element.{Element}
+use Rattle.model.specs.Acceptance.{longestElement}
 use Rattle.model.specs.Series.{spiralSeries, seriesAlong, seriesAside, localOf, lengthAt, localAt}
 use Rattle.model.specs.Bound.{Fraction, Within2, exactAlong, exactAside, alongSum, asideSum, turnOf, unsignedAlong, Bounded}
 use Rattle.model.specs.Accepted.{Accepted}
 use Rattle.elements.proofs.Angle.{Turn, angle, angleAt-is, turnAt-turn, lengthAt-within}
 use Rattle.elements.proofs.Sums.{once-exact, near-along, near-aside}
 
-module _ {l : ℕ} (short : l ≤ 500000) {φ : Fraction} (turn : Turn φ) where
+module _ {l : ℕ} (short : l ≤ longestElement) {φ : Fraction} (turn : Turn φ) where
   spiral-along : Within2 (seriesAlong spiralSeries l (angle φ)) (alongSum 10 216 l (φ .numerator) (φ .denominator))
   unfolding seriesAlong
   spiral-along = near-along {c = 2} {b = 5} {d = 108} (omega arith) turn short

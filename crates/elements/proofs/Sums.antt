@@ -10,6 +10,7 @@ use Rattle.integers.proofs.Ring.{one-*ℤ}
 use Rattle.integers.proofs.Abs.{natAbs-*}
 use Rattle.integers.proofs.Identity.{var, _⊖_, _⊗_}
 use Rattle.integers.proofs.Written.{writing, identityℕ}
+use Rattle.model.specs.Acceptance.{longestElement}
 use Rattle.model.specs.Rounding.{ONE, near}
 use Rattle.model.specs.Series.{factor, F, squareOf}
 use Rattle.model.specs.Bound.{Fraction, fraction, Within2, alongSum, asideSum}
@@ -74,7 +75,7 @@ near-product k y x X {G} {S} {D} close h e small =
     rw e (omega (arith, product-error k y D x X G S (near (x *ℤ G) (k * ONE)) close (twice-error (mul-pos h (omega arith)) (x *ℤ G)) small))
 
 -- for F(c·b; b, d)
-module _ {c b d : ℕ} (h : ThreeTerm c b d) {φ : Fraction} (turn : Turn φ) {z : ℕ} (short : z ≤ 500000) where
+module _ {c b d : ℕ} (h : ThreeTerm c b d) {φ : Fraction} (turn : Turn φ) {z : ℕ} (short : z ≤ longestElement) where
   pub near-along : Within2 (near (pos (100 * z) *ℤ F (factor (c * b) b d) (squareOf (angle φ))) ONE) (alongSum (c * b) (c * d) z (φ .numerator) (φ .denominator))
   unfolding alongSum
   near-along =

@@ -5,14 +5,14 @@ use model::Element;
 use model::Kind;
 use model::Point;
 ghost use mathlib.Core.Path.{_≡_};
-ghost use Prim.Native.Nat.{_^_, _≤_, _<_};
-ghost use lib.IntN.{pos, natAbs, _+ℤ_, _*ℤ_};
+ghost use Prim.Native.Nat.{_^_, _≤_};
+ghost use lib.IntN.{pos, _+ℤ_, _*ℤ_};
 ghost use Rattle.model.specs.Rounding.{ONE, near};
+ghost use Rattle.model.specs.Acceptance.{longestElement, widest};
 ghost use Rattle.model.specs.Accepted.{Accepted};
-ghost use Rattle.model.specs.Series.{positionOn, tangentOn, angleAt};
-ghost use Rattle.elements.specs.Signs.{withSign, signOf};
+ghost use Rattle.model.specs.Series.{positionOn, tangentOn};
 ghost use Rattle.elements.specs.Prepared.{divisorOf, backward, preparedOf, Ready};
-ghost use Rattle.elements.specs.Reached.{Turnable, Near, Reached, Reachable, ReachedBy, pointOf, headingOf, placementOf};
+ghost use Rattle.elements.specs.Reached.{Turnable, Near, Reachable, ReachedBy, pointOf, headingOf, placementOf};
 
 pub mod rounding;
 mod series;
@@ -41,7 +41,7 @@ pub struct Placement {
 
 // The divisor of the angle, doubled on an arc.
 fn divisor_of(kind: Kind, radius: u64, length: u64) -> u64
-    requires { ⌜ (radius ≤ 10000000) × (length ≤ 500000) ⌝ }
+    requires { ⌜ (radius ≤ widest) × (length ≤ longestElement) ⌝ }
     ensures { λ r. ⌜ r ≡ divisorOf kind radius length ⌝ }
 {
     match kind {

@@ -15,7 +15,7 @@ use Rattle.model.specs.Acceptance.{inFrame}
 use Rattle.model.specs.Stations.{total, D}
 use Rattle.model.specs.Judged.{judged, residualAt, offsetAt}
 use Rattle.model.specs.Walk.{visitCount}
-use Rattle.model.specs.Answers.{locatedOn}
+use Rattle.model.specs.Answers.{farthest, pastEnd, locatedOn}
 use Rattle.walk_laws.proofs.Outcomes.{at-end-fails, count-is, outside-frame, too-far, before-start, after-end, answered}
 
 -- a test at an end of the alignment
@@ -37,28 +37,28 @@ module _ (es : List Element) (p : Point) where
   gives-11 e = outside-frame es p .1 e
 
   module _ (inside : inFrame (p .x) (p .y) ≡ true) where
-    pub gives-12 : 400000000000000 < D es p (judged es p) → locatedOn es p ≡ LocatedRefused (record { number = 12; place = 0 })
+    pub gives-12 : farthest < D es p (judged es p) → locatedOn es p ≡ LocatedRefused (record { number = 12; place = 0 })
     unfolding refusal number
     gives-12 h = too-far es p .1 (inside, h)
 
-    module _ (near : D es p (judged es p) ≤ 400000000000000) where
-      pub gives-13 : (eqb (judged es p) 0 && ltZ (residualAt es p (judged es p)) (negℤ (pos 100))) ≡ true → locatedOn es p ≡ LocatedRefused (record { number = 13; place = 0 })
+    module _ (near : D es p (judged es p) ≤ farthest) where
+      pub gives-13 : (eqb (judged es p) 0 && ltZ (residualAt es p (judged es p)) (negℤ (pos pastEnd))) ≡ true → locatedOn es p ≡ LocatedRefused (record { number = 13; place = 0 })
       unfolding refusal number
-      gives-13 e = let x = test-true s 0 residual (negℤ (pos 100)) e in before-start es p .1 (inside, near, x .0, x .1)
+      gives-13 e = let x = test-true s 0 residual (negℤ (pos pastEnd)) e in before-start es p .1 (inside, near, x .0, x .1)
 
-      pub gives-14 : (eqb (judged es p) (total es) && ltZ (pos 100) (residualAt es p (judged es p))) ≡ true → locatedOn es p ≡ LocatedRefused (record { number = 14; place = 0 })
+      pub gives-14 : (eqb (judged es p) (total es) && ltZ (pos pastEnd) (residualAt es p (judged es p))) ≡ true → locatedOn es p ≡ LocatedRefused (record { number = 14; place = 0 })
       unfolding refusal number
-      gives-14 e = let x = test-true s (total es) (pos 100) residual e in after-end es p .1 (inside, near, x .0, x .1)
+      gives-14 e = let x = test-true s (total es) (pos pastEnd) residual e in after-end es p .1 (inside, near, x .0, x .1)
 
-      pub gives-answer : (eqb (judged es p) 0 && ltZ (residualAt es p (judged es p)) (negℤ (pos 100))) ≡ false → (eqb (judged es p) (total es) && ltZ (pos 100) (residualAt es p (judged es p))) ≡ false →
+      pub gives-answer : (eqb (judged es p) 0 && ltZ (residualAt es p (judged es p)) (negℤ (pos pastEnd))) ≡ false → (eqb (judged es p) (total es) && ltZ (pos pastEnd) (residualAt es p (judged es p))) ≡ false →
           locatedOn es p ≡ LocatedAt (judged es p) (offsetAt es p (judged es p)) (residualAt es p (judged es p)) (visitCount es p)
       gives-answer e f =
           answered es p s (offsetAt es p s) residual (visitCount es p) .1
           (record {
             inside = inside;
             near = near;
-            notBefore = test-false s 0 residual (negℤ (pos 100)) e;
-            notAfter = test-false s (total es) (pos 100) residual f;
+            notBefore = test-false s 0 residual (negℤ (pos pastEnd)) e;
+            notAfter = test-false s (total es) (pos pastEnd) residual f;
             station = refl;
             offset = refl;
             residual = refl;

@@ -7,6 +7,7 @@ use lib.ListN.{length, getD, take, drop}
 use lib.Seq.{drop-cons, getD-take}
 use Rattle.model.specs.declared.Element.{Element}
 use Rattle.model.specs.Stations.{total}
+use Rattle.model.specs.Acceptance.{longestElement}
 use Rattle.model.specs.Accepted.{AllAccepted}
 use Rattle.model.proofs.Accepted.{numbers}
 
@@ -19,7 +20,7 @@ unfolding total
 total-first q = ap total q
 
 -- "1 to 500,000" mm each
-pub total-within : (es : List Element) → AllAccepted es → total es ≤ 500000 * length es
+pub total-within : (es : List Element) → AllAccepted es → total es ≤ longestElement * length es
 unfolding total AllAccepted
 total-within [] h = omega arith
 total-within (e ∷ es) h = omega (arith, numbers (h .0) .longest, total-within es (h .1))

@@ -26,7 +26,7 @@ use Rattle.model.specs.Acceptance.{inFrame, checked, crestElements}
 use Rattle.model.specs.Stations.{total, D}
 use Rattle.model.specs.Judged.{judged, residualAt, offsetAt}
 use Rattle.model.specs.Walk.{firstVisits, secondVisits, visits, visitCount}
-use Rattle.model.specs.Answers.{pointRules, locatedIf, locatedAfter, locatedOn, located}
+use Rattle.model.specs.Answers.{farthest, pastEnd, pointRules, locatedIf, locatedAfter, locatedOn, located}
 use Rattle.model.proofs.Verdict.{AllHold, none, more, done→all, all→done}
 use Rattle.walk_laws.proofs.Crest.{located-exactly}
 use Rattle.walk_laws.proofs.Reasons.{first-holds, rest-hold, Lacks, empty, other, given-exactly}
@@ -34,20 +34,20 @@ use Rattle.walk_laws.proofs.Reasons.{first-holds, rest-hold, Lacks, emp
 -- ---- the table's conditions, each where none before it applies
 
 abbrev pub TooFar : List Element → Point → Type 0
-TooFar es p = (inFrame (p .x) (p .y) ≡ true) × (400000000000000 < D es p (judged es p))
+TooFar es p = (inFrame (p .x) (p .y) ≡ true) × (farthest < D es p (judged es p))
 
 abbrev pub BeforeStart : List Element → Point → Type 0
-BeforeStart es p = (inFrame (p .x) (p .y) ≡ true) × (D es p (judged es p) ≤ 400000000000000) × (judged es p ≡ 0) × (residualAt es p (judged es p) <ℤ negℤ (pos 100))
+BeforeStart es p = (inFrame (p .x) (p .y) ≡ true) × (D es p (judged es p) ≤ farthest) × (judged es p ≡ 0) × (residualAt es p (judged es p) <ℤ negℤ (pos pastEnd))
 
 abbrev pub AfterEnd : List Element → Point → Type 0
-AfterEnd es p = (inFrame (p .x) (p .y) ≡ true) × (D es p (judged es p) ≤ 400000000000000) × (judged es p ≡ total es) × (pos 100 <ℤ residualAt es p (judged es p))
+AfterEnd es p = (inFrame (p .x) (p .y) ≡ true) × (D es p (judged es p) ≤ farthest) × (judged es p ≡ total es) × (pos pastEnd <ℤ residualAt es p (judged es p))
 
 -- An answer: none of 11 to 14 applies, and it gives the station judged with its offset and residual, and how many stations both passes visit.
 pub record Answered (es : List Element) (p : Point) (at : ℕ) (w r : ℤ) (n : ℕ) : Type 0 where
   pub inside : inFrame (p .x) (p .y) ≡ true
-  pub near : D es p (judged es p) ≤ 400000000000000
-  pub notBefore : ¬ ((judged es p ≡ 0) × (residualAt es p (judged es p) <ℤ negℤ (pos 100)))
-  pub notAfter : ¬ ((judged es p ≡ total es) × (pos 100 <ℤ residualAt es p (judged es p)))
+  pub near : D es p (judged es p) ≤ farthest
+  pub notBefore : ¬ ((judged es p ≡ 0) × (residualAt es p (judged es p) <ℤ negℤ (pos pastEnd)))
+  pub notAfter : ¬ ((judged es p ≡ total es) × (pos pastEnd <ℤ residualAt es p (judged es p)))
   pub station : at ≡ judged es p
   pub offset : w ≡ offsetAt es p (judged es p)
   pub residual : r ≡ residualAt es p (judged es p)
@@ -90,30 +90,30 @@ module _ (es : List Element) (p : Point) where
   frame = rule₀ outsideFrame (inFrame (p .x) (p .y))
 
   abbrev near : Rule
-  near = rule₀ tooFar (leb (D es p (judged es p)) 400000000000000)
+  near = rule₀ tooFar (leb (D es p (judged es p)) farthest)
 
   abbrev start : Rule
-  start = rule₀ beforeStart (not (eqb (judged es p) 0 && ltZ (residualAt es p (judged es p)) (negℤ (pos 100))))
+  start = rule₀ beforeStart (not (eqb (judged es p) 0 && ltZ (residualAt es p (judged es p)) (negℤ (pos pastEnd))))
 
   abbrev end : Rule
-  end = rule₀ afterEnd (not (eqb (judged es p) (total es) && ltZ (pos 100) (residualAt es p (judged es p))))
+  end = rule₀ afterEnd (not (eqb (judged es p) (total es) && ltZ (pos pastEnd) (residualAt es p (judged es p))))
 
-  near-holds : (near .holds ≡ true) ↔ (D es p (judged es p) ≤ 400000000000000)
-  near-holds = (leb-true (D es p (judged es p)) 400000000000000, le-leb (D es p (judged es p)) 400000000000000)
+  near-holds : (near .holds ≡ true) ↔ (D es p (judged es p) ≤ farthest)
+  near-holds = (leb-true (D es p (judged es p)) farthest, le-leb (D es p (judged es p)) farthest)
 
-  near-fails : (near .holds ≡ false) ↔ (400000000000000 < D es p (judged es p))
-  near-fails = (leb-false (D es p (judged es p)) 400000000000000, lt-leb (D es p (judged es p)) 400000000000000)
+  near-fails : (near .holds ≡ false) ↔ (farthest < D es p (judged es p))
+  near-fails = (leb-false (D es p (judged es p)) farthest, lt-leb (D es p (judged es p)) farthest)
 
-  start-fails : (start .holds ≡ false) ↔ ((judged es p ≡ 0) × (residualAt es p (judged es p) <ℤ negℤ (pos 100)))
-  start-fails = at-end-fails (judged es p) 0 (residualAt es p (judged es p)) (negℤ (pos 100))
+  start-fails : (start .holds ≡ false) ↔ ((judged es p ≡ 0) × (residualAt es p (judged es p) <ℤ negℤ (pos pastEnd)))
+  start-fails = at-end-fails (judged es p) 0 (residualAt es p (judged es p)) (negℤ (pos pastEnd))
 
-  start-holds : (start .holds ≡ true) ↔ (¬ ((judged es p ≡ 0) × (residualAt es p (judged es p) <ℤ negℤ (pos 100))))
+  start-holds : (start .holds ≡ true) ↔ (¬ ((judged es p ≡ 0) × (residualAt es p (judged es p) <ℤ negℤ (pos pastEnd))))
   start-holds = holds-unless (start .holds) start-fails
 
-  end-fails : (end .holds ≡ false) ↔ ((judged es p ≡ total es) × (pos 100 <ℤ residualAt es p (judged es p)))
-  end-fails = at-end-fails (judged es p) (total es) (pos 100) (residualAt es p (judged es p))
+  end-fails : (end .holds ≡ false) ↔ ((judged es p ≡ total es) × (pos pastEnd <ℤ residualAt es p (judged es p)))
+  end-fails = at-end-fails (judged es p) (total es) (pos pastEnd) (residualAt es p (judged es p))
 
-  end-holds : (end .holds ≡ true) ↔ (¬ ((judged es p ≡ total es) × (pos 100 <ℤ residualAt es p (judged es p))))
+  end-holds : (end .holds ≡ true) ↔ (¬ ((judged es p ≡ total es) × (pos pastEnd <ℤ residualAt es p (judged es p))))
   end-holds = holds-unless (end .holds) end-fails
 
   refused-by : (before : List Rule) (r : Rule) (after : List Rule) → before ++ (r ∷ after) ≡ (frame ∷ near ∷ start ∷ end ∷ []) →

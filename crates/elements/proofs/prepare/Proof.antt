@@ -6,6 +6,7 @@ use lib.IntN.{ℤ, natAbs}
 use borrow.Author.Needs.{needs}
 use Rattle.model.proofs.Accepted.{numbers}
 use Rattle.model.specs.declared.Element.{Element}
+use Rattle.model.specs.Acceptance.{widest}
 use Rattle.model.specs.Rounding.{ONE}
 use Rattle.elements.specs.declared.Prepared.{Prepared}
 use Rattle.elements.specs.Signs.{withSign, signOf}
@@ -27,7 +28,7 @@ module _ (c : tie.Start) where
   s-small : natAbs (e .s) ≤ ONE
   s-small = unit-within′ (e .c) (e .s) (numbers (c .pre) .unit)
 
-  radius-small : natAbs (e .radius) ≤ 10000000
+  radius-small : natAbs (e .radius) ≤ widest
   radius-small = radius-within (e .kind) (e .length) (numbers (c .pre) .radius)
 
   radius-held : held (e .radius) ≡ e .radius

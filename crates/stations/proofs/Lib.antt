@@ -7,5 +7,4 @@ pub mod StationExtent
 pub mod StationAnswers
 pub mod InverseAnswers
 pub mod StationBytes
-pub mod AskAnswers
 pub mod AskSmall

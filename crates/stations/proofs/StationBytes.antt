@@ -12,10 +12,13 @@ use Rattle.model.specs.declared.Inverse.the-variants.{Refused as InverseRefused
 use Rattle.model.specs.declared.Outcome.the-variants.{Done, Refused}
 use Rattle.model.specs.Refusals.{rule₀, verdict, askedOutOfRange}
 use Rattle.model.specs.Acceptance.{checked, crestRules, crestElements}
-use Rattle.model.specs.Stations.{isStation}
+use Rattle.model.specs.Stations.{used, isStation}
 use Rattle.model.specs.Answers.{placedIf, placed, inverseOn, inverse}
 use Rattle.model.proofs.Answers.{inverse-accepted, inverse-before}
 use Rattle.model.proofs.Verdict.{verdict-after, refused-before}
+use Rattle.alignment.specs.declared.accept.Acceptance.{Acceptance}
+use Rattle.alignment.specs.Accepts.{acceptanceOf}
+use Rattle.alignment.proofs.AcceptCrest.{outcome-checked, crest-of}
 
 module _ (file : List ℕ) where
   module _ {es : List Element} (e : checked file ≡ Done) (same : es ≡ crestElements file) where
@@ -37,3 +40,20 @@ module _ (file : List ℕ) where
     pub inverse-refused : (s w : ℤ) → inverse file s w ≡ InverseRefused x
     unfolding inverse checked
     inverse-refused s w = inverse-before (crestRules file) (crestElements file) s w e
+
+-- ---- by what the check of the bytes came to
+
+module _ (file : List ℕ) {r : Acceptance} (a : r ≡ acceptanceOf file) where
+  module _ (e : r .outcome ≡ Done) where
+    pub ask-placed : (s : ℤ) {p : Placed} → p ≡ placedIf (verdict (rule₀ askedOutOfRange (isStation (used (r .alignment)) s) ∷ [])) (used (r .alignment)) (natAbs s) → p ≡ placed file s
+    ask-placed s q = placed-of file (sym (outcome-checked file a) ∙ e) (crest-of file a e .elements) s q
+
+    pub ask-inverse : (s w : ℤ) {p : Inverse} → p ≡ inverseOn (used (r .alignment)) s w → p ≡ inverse file s w
+    ask-inverse s w q = inverse-of file (sym (outcome-checked file a) ∙ e) (crest-of file a e .elements) s w q
+
+  module _ {x : Refusal} (e : r .outcome ≡ Refused x) where
+    pub refuse-placed : (s : ℤ) → PlacedRefused x ≡ placed file s
+    refuse-placed s = sym (placed-refused file (sym (outcome-checked file a) ∙ e) s)
+
+    pub refuse-inverse : (s w : ℤ) → InverseRefused x ≡ inverse file s w
+    refuse-inverse s w = sym (inverse-refused file (sym (outcome-checked file a) ∙ e) s w)

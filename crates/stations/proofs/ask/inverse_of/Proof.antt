@@ -2,7 +2,7 @@
 use borrow.Author.Needs.{needs}
 use mir.Facts.{toZ-ofZ}
 use Rattle.alignment.proofs.AcceptCrest.{crest-of}
-use Rattle.stations.proofs.AskAnswers.{ask-inverse, refuse-inverse}
+use Rattle.stations.proofs.StationBytes.{ask-inverse, refuse-inverse}
 use Rattle.stations.proofs.ask.inverse_of.Statement.{statement}
 use Rattle.stations.proofs.ask.inverse_of.Tie as tie
 

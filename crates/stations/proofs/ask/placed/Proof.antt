@@ -2,7 +2,7 @@
 use borrow.Author.Needs.{needs}
 use mir.Facts.{toZ-ofZ}
 use Rattle.alignment.proofs.AcceptCrest.{crest-of}
-use Rattle.stations.proofs.AskAnswers.{ask-placed, refuse-placed}
+use Rattle.stations.proofs.StationBytes.{ask-placed, refuse-placed}
 use Rattle.stations.proofs.ask.placed.Statement.{statement}
 use Rattle.stations.proofs.ask.placed.Tie as tie
 

@@ -60,19 +60,19 @@ module _ (file room : List ℕ) where
     unfolding positionCall roomRules verdict orRefused placed
     position-by s = rw (eq-eqb (length room) 16 sized)
 
-    pub position-sent : (s : ℤ) → positionCall file s room ≡ sent (fromPlaced (placed file s)) room
-    position-sent s = position-by s ∙ placed-sent (placed file s) room
+    pub position-call-sent : (s : ℤ) → positionCall file s room ≡ sent (fromPlaced (placed file s)) room
+    position-call-sent s = position-by s ∙ placed-sent (placed file s) room
 
     locate-by : (p : Point) → locateCall file p room ≡ (code (paperOfLocated (located file p)), locatedBytes (located file p) room)
     unfolding locateCall roomRules verdict orRefused locatedAfter located
     locate-by p = rw (eq-eqb (length room) 16 sized)
 
-    pub locate-sent : (p : Point) → locateCall file p room ≡ sent (fromLocated (located file p)) room
-    locate-sent p = locate-by p ∙ located-sent (located file p) room
+    pub locate-call-sent : (p : Point) → locateCall file p room ≡ sent (fromLocated (located file p)) room
+    locate-call-sent p = locate-by p ∙ located-sent (located file p) room
 
   inverse-by : length room ≡ 8 → (s w : ℤ) → inverseCall file s w room ≡ (code (paperOfInverse (inverse file s w)), inverseBytes (inverse file s w) room)
   unfolding inverseCall roomRules verdict orRefused inverseAfter inverse
   inverse-by sized s w = rw (eq-eqb (length room) 8 sized)
 
-  pub inverse-written : length room ≡ 8 → (s w : ℤ) → inverseCall file s w room ≡ sent (fromInverse (inverse file s w)) room
-  inverse-written sized s w = inverse-by sized s w ∙ inverse-sent (inverse file s w) room
+  pub inverse-call-sent : length room ≡ 8 → (s w : ℤ) → inverseCall file s w room ≡ sent (fromInverse (inverse file s w)) room
+  inverse-call-sent sized s w = inverse-by sized s w ∙ inverse-sent (inverse file s w) room

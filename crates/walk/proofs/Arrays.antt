@@ -5,15 +5,16 @@ use mathlib.Core.Path.{_≡_, sym, _∙_, ap}
 use native.Mathlib.Numerals.{add-one}
 use native.Mathlib.Omega.{arith}
 use lib.ListN.{length, getD, take, drop, set, replicate, List·getD-append}
-use lib.Seq.{length-take-le, drop-cons, getD-take, append-snoc, take-suc, take-all, set-at}
+use lib.Seq.{length-take-le, append-snoc, take-suc, take-all, set-at}
 use Rattle.model.specs.declared.Element.{Element}
 use Rattle.model.specs.declared.Alignment.{Alignment}
+use Rattle.model.specs.Acceptance.{longestElement}
 use Rattle.model.specs.Accepted.{Accepted, AllAccepted, AlignmentAccepted}
 use Rattle.model.specs.Stations.{noElement, used, total}
 use Rattle.model.specs.Walk.{ownStations, bounds}
 use Rattle.model.proofs.Accepted.{numbers}
-use Rattle.elements.specs.declared.Prepared.{Prepared}
-use Rattle.elements.specs.Prepared.{preparedOf}
+pub use Rattle.elements.proofs.Preparing.{prepared-element}
+use Rattle.stations.proofs.StationTotal as Total
 use Rattle.walk_laws.proofs.Own.{bounds-length, bound-at, bound-next}
 use Rattle.walk.specs.Search.{boundsIn}
 
@@ -24,14 +25,7 @@ used-length a n r = length-take-le (a .count) (a .elements) (omega (arith, r .mo
 -- what is used from the i-th on begins with the i-th of the array
 pub used-at : (a : Alignment) (i : ℕ) → i < a .count → length (used a) ≡ a .count → drop i (used a) ≡ getD (a .elements) i noElement ∷ drop (suc i) (used a)
 unfolding used
-used-at a i h n =
-    drop-cons (used a) i noElement (omega arith)
-    ∙ ap (λ (e : Element). e ∷ drop (suc i) (used a)) (getD-take (a .count) (a .elements) i noElement h)
-
--- what is prepared of an element is that element's
-pub prepared-element : (e : Element) {p : Prepared} → p ≡ preparedOf e → p .element ≡ e
-unfolding preparedOf
-prepared-element e q = ap (λ (p : Prepared). p .element) q
+used-at a i h n = Total.used-at (a .elements) (a .count) i noElement h (omega arith)
 
 -- ---- a list that begins with an element
 
@@ -39,7 +33,7 @@ pub first-accepted : {l : List Element} {e : Element} {es : List Element} → l 
 unfolding AllAccepted
 first-accepted q a = rw q at a
 
-pub accepted-length : {e : Element} → Accepted e → (1 ≤ e .length) × (e .length ≤ 500000)
+pub accepted-length : {e : Element} → Accepted e → (1 ≤ e .length) × (e .length ≤ longestElement)
 accepted-length a = let n = numbers a in (n .shortest, n .longest)
 
 -- ---- an array of 61 numbers, of which the first i are those of a list and the others 0

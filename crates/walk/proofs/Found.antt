@@ -21,11 +21,11 @@ use Rattle.walk.specs.declared.Pass.the-variants.{First, Second}
 use Rattle.walk.specs.declared.Seen.{Seen}
 use Rattle.walk.specs.Search.{InFrame, nearer, seenAt, seenOver, passOver, walkedOf}
 use Rattle.walk.proofs.Arrays.{accepted-length}
-use Rattle.walk_laws.proofs.Own.{D-own}
+use Rattle.walk_laws.proofs.Own.{own-between, D-own}
 use Rattle.walk_laws.proofs.Visits.{Place, here, later, place, not-in-none}
 use Rattle.walk_laws.proofs.Walked.{LeastIn, walk-best, walk-station}
 use Rattle.walk.proofs.Seeing.{seenOver-++, seenOver-best, seenOver-visits}
-use Rattle.walk.proofs.Passing.{own-between, first-is, second-is}
+use Rattle.walk.proofs.Passing.{first-is, second-is}
 
 -- ---- what is kept
 

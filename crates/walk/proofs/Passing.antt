@@ -20,15 +20,12 @@ use Rattle.walk.specs.declared.Pass.the-variants.{First, Second}
 use Rattle.walk.specs.declared.Seen.{Seen}
 use Rattle.walk.specs.Search.{seenAt, seenOver, onElement, above, endVisit, firstOn, passVisits, passOn, passOver}
 use Rattle.walk.proofs.Arrays.{first-accepted}
+pub use Rattle.walk_laws.proofs.Own.{own-between}
 use Rattle.walk_laws.proofs.Own.{D-own, total-at}
-use Rattle.walk_laws.proofs.Visits.{Rising, none, next, rising-from, multiples-rise, bestOf-≤}
+use Rattle.walk_laws.proofs.Visits.{Rising, none, next, rising-from, rising-length, multiples-rise, bestOf-≤}
 use Rattle.walk.proofs.Seeing.{seenOver-++, seenOver-best, seenOver-visits}
 
 -- ---- one element: its visits are own stations, and a distance that is the same on these gives the same
-
-rising-length : {lo hi : ℕ} {vs : List ℕ} → lo ≤ hi → Rising hi lo vs → length vs + lo ≤ hi
-rising-length h none = omega arith
-rising-length h (next s l k r) = omega (arith, rising-length (omega arith) r)
 
 element-rises : (d : ℕ → ℕ) (hi k n s b : ℕ) → n ≡ hi - s → Rising hi s (elementVisits d k n s b)
 unfolding elementVisits
@@ -67,7 +64,7 @@ module _ (d f : ℕ → ℕ) (lo hi : ℕ) (same : (s : ℕ) → lo ≤ s → s 
       let j = skipped (f s) best in
       rw (same s l (omega arith)) (ap (λ (vs : List ℕ). s ∷ vs) (element-same k (n - j) (s + 1 + j) best (omega arith) (omega arith)))
 
-pub pass-same : (pass : Pass) (d f : ℕ → ℕ) (n own s : ℕ) → n ≤ own → ((x : ℕ) → s ≤ x → x < s + own → d x ≡ f x) → (w : Seen) → passOn pass d n own s w ≡ passOn pass f n own s w
+pass-same : (pass : Pass) (d f : ℕ → ℕ) (n own s : ℕ) → n ≤ own → ((x : ℕ) → s ≤ x → x < s + own → d x ≡ f x) → (w : Seen) → passOn pass d n own s w ≡ passOn pass f n own s w
 unfolding passOn passVisits
 pass-same First d f n own s h same w =
     seenOver-++ d (firstOn own s) (endVisit n own s) w
@@ -80,7 +77,7 @@ pass-same Second d f n own s h same w =
     ∙ ap (λ (vs : List ℕ). seenOver f vs w) (element-same d f s (s + own) same own own s (w .best) e (le-refl s))
 
 pub first-length : (own s : ℕ) → length (firstOn own s) ≤ own
-first-length own s = omega (arith, rising-length (omega arith) (first-rises own s))
+first-length own s = omega (arith, rising-length (first-rises own s))
 
 end-length : (n own s : ℕ) → length (endVisit n own s) ≤ 1
 unfolding endVisit
@@ -93,22 +90,17 @@ end-length n own s = go (eqb own n || eqb ((s + n) % 1000) 0)
 pass-length : (pass : Pass) (d : ℕ → ℕ) (n own s b : ℕ) → length (passVisits pass d n own s b) ≤ own + 1
 unfolding passVisits
 pass-length First d n own s b = omega (arith, length-append (firstOn own s) (endVisit n own s), first-length own s, end-length n own s)
-pass-length Second d n own s b = omega (arith, rising-length (omega arith) (element-rises d (s + own) own own s b (omega arith)))
+pass-length Second d n own s b = omega (arith, rising-length (element-rises d (s + own) own own s b (omega arith)))
 
-pub pass-visits : (pass : Pass) (d : ℕ → ℕ) (n own s : ℕ) (w : Seen) → passOn pass d n own s w .visits ≤ w .visits + own + 1
+pass-visits : (pass : Pass) (d : ℕ → ℕ) (n own s : ℕ) (w : Seen) → passOn pass d n own s w .visits ≤ w .visits + own + 1
 unfolding passOn
 pass-visits pass d n own s w = omega (arith, seenOver-visits d (passVisits pass d n own s (w .best)) w, pass-length pass d n own s (w .best))
 
-pub pass-best : (pass : Pass) (d : ℕ → ℕ) (n own s : ℕ) (w : Seen) → passOn pass d n own s w .best ≤ w .best
+pass-best : (pass : Pass) (d : ℕ → ℕ) (n own s : ℕ) (w : Seen) → passOn pass d n own s w .best ≤ w .best
 unfolding passOn
 pass-best pass d n own s w = let vs = passVisits pass d n own s (w .best) in omega (arith, seenOver-best d vs w, bestOf-≤ d (w .best) vs)
 
 -- ---- all elements: what is seen after them
-
-pub own-between : (e : Element) (es : List Element) → (e .length ≤ ownStations e es) × (ownStations e es ≤ e .length + 1)
-unfolding ownStations
-own-between e [] = (omega arith, omega arith)
-own-between e (f ∷ es) = (omega arith, omega arith)
 
 pub over-best : (pass : Pass) (d : ℕ → ℕ) (es : List Element) (s : ℕ) (w : Seen) → passOver pass d es s w .best ≤ w .best
 unfolding passOver

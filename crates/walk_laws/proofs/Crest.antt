@@ -1,7 +1,7 @@
 -- A crest's own refusal has a number up to 9, so that a greater one is given by a later rule, on an accepted file.
 use mathlib.Core.List.{List}
 use mathlib.Core.Logic.{_↔_}
-use mathlib.Core.Path.{_≡_, refl, sym, _∙_, ap}
+use mathlib.Core.Path.{_≡_, refl, sym, _∙_}
 use Prim.Native.Nat.{ℕ, _-_, _<_}
 use native.Mathlib.Omega.{arith}
 use Rattle.model.specs.declared.Point.{Point}
@@ -13,10 +13,8 @@ use Rattle.model.specs.declared.Located.the-variants.{Refused as LocatedRefused
 use Rattle.model.specs.Refusals.{number}
 use Rattle.model.specs.Records.{recordBytes, countOf, blockCount}
 use Rattle.model.specs.Acceptance.{recordRules, joinRules, recordsRules, sumRules, fieldRules, blocksRules, crestRules, checked, crestElements}
-use Rattle.model.specs.Judged.{judged}
-use Rattle.model.specs.Answers.{pointRules, locatedIf, locatedAfter, locatedOn, located}
-use Rattle.model.proofs.Verdict.{refused-before}
-use Rattle.model.proofs.Answers.{located-accepted}
+use Rattle.model.specs.Answers.{locatedOn, located}
+use Rattle.model.proofs.Answers.{located-before, located-accepted}
 use Rattle.walk_laws.proofs.Reasons.{Lacks, empty, other, lacks-++, lacks-forEach, lacks→not-given}
 
 -- ---- the crest's own refusals come first
@@ -43,11 +41,8 @@ unfolding checked
 crest-up-to-9 file w e h = lacks→not-given (crest-lacks (w .number) h file) e
 
 pub located-refused-crest : (file : List ℕ) (p : Point) (w : Refusal) → checked file ≡ Refused w → located file p ≡ LocatedRefused w
-unfolding located locatedAfter locatedIf checked
-located-refused-crest file p w e =
-    let es = crestElements file in
-    let s = judged es p in
-    ap (λ (o : Outcome). locatedIf o es p s) (refused-before (crestRules file) (pointRules es p s) e)
+unfolding located checked
+located-refused-crest file p w e = located-before (crestRules file) (crestElements file) p e
 
 -- an answer, and a refusal above 9, is given exactly when the file is accepted and its elements give it
 pub located-exactly : (file : List ℕ) (p : Point) (l : Located) → ((w : Refusal) → l ≡ LocatedRefused w → 9 < w .number) → (located file p ≡ l) ↔ ((checked file ≡ Done) × (locatedOn (crestElements file) p ≡ l))

@@ -14,6 +14,11 @@ use Rattle.model.specs.Series.{positionOn}
 use Rattle.model.specs.Stations.{AtElement, atStation, total, positionAt, distanceSq, D}
 use Rattle.model.specs.Walk.{ownStations, boundsFrom, bounds}
 
+pub own-between : (e : Element) (es : List Element) → (e .length ≤ ownStations e es) × (ownStations e es ≤ e .length + 1)
+unfolding ownStations
+own-between e [] = (omega arith, omega arith)
+own-between e (f ∷ es) = (omega arith, omega arith)
+
 pub at-first : (e : Element) (es : List Element) (s : ℕ) → s < ownStations e es → atStation (e ∷ es) s ≡ record { element = e; s = s }
 unfolding atStation ownStations
 at-first e [] s h = refl

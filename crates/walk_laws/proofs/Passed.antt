@@ -15,7 +15,7 @@ use Rattle.model.specs.Accepted.{Accepted, AllAccepted}
 use Rattle.model.specs.Stations.{total, distanceSq, D}
 use Rattle.model.specs.Walk.{bestOf, firstBest, skipped, elementVisits, ownStations, secondFrom, secondVisits, isIn}
 use Rattle.walk_laws.proofs.Spaced.{skipped-farther}
-use Rattle.walk_laws.proofs.Own.{D-own, total-++}
+use Rattle.walk_laws.proofs.Own.{own-between, D-own, total-++}
 use Rattle.walk_laws.proofs.Visits.{Place, here, later, place, isIn-++, Rising, none, next, rising-from, rising-++, bestOf-≤, bestOf-++}
 
 -- A pass over the stations from lo on and below hi, where the best before it is b: its visits rise, and what it leaves out lies farther than its final best.
@@ -70,11 +70,6 @@ module _ (d : ℕ → ℕ) (lo hi : ℕ) (spaced : (s j b : ℕ) → lo ≤ s �
 
 -- ---- all elements
 
-own-≤ : (e : Element) (es : List Element) → ownStations e es ≤ e .length + 1
-unfolding ownStations
-own-≤ e [] = omega arith
-own-≤ e (f ∷ es) = omega arith
-
 module _ (es : List Element) (p : Point) where
   own-passed : (before : List Element) (e : Element) (after : List Element) → before ++ (e ∷ after) ≡ es → Accepted e → (b : ℕ) →
       Passed (D es p) (total before) (total before + ownStations e after) b (elementVisits (D es p) (ownStations e after) (ownStations e after) (total before) b)
@@ -94,7 +89,7 @@ module _ (es : List Element) (p : Point) where
       spaced : (s j c : ℕ) → start ≤ s → s + j < start + own → 0 < j → j ≤ skipped (D es p s) c → c < D es p (s + j)
       spaced s j c l k z m =
           let y : s + j - start ≡ s - start + j = omega arith in
-          let i : s - start + j ≤ e .length = omega (arith, own-≤ e after) in
+          let i : s - start + j ≤ e .length = omega (arith, own-between e after) in
           let n = rw (distance s l (omega arith)) at m in
           rw (distance (s + j) (omega arith) k, y) (skipped-farther e a p (s - start) j c i z n)
 

@@ -23,7 +23,7 @@ difference-cancels : (a b c : ℤ) → (a -ℤ b) -ℤ (c -ℤ b) ≡ a -ℤ c
 difference-cancels a b c = identity {ρ = a ∷ b ∷ c ∷ []} (search writing depth 20) (search writing depth 20) tt
 
 -- from p to q are root b + 1 + m grains or more, and from q to r at most m: so r lies farther from p than the root of b
-pub farther-than : (p q r : Point) (m b : ℕ) → distanceSq q r ≤ m * m → m + (root b + 1) ≤ root (distanceSq p q) → b < distanceSq p r
+farther-than : (p q r : Point) (m b : ℕ) → distanceSq q r ≤ m * m → m + (root b + 1) ≤ root (distanceSq p q) → b < distanceSq p r
 unfolding distanceSq
 farther-than p q r m b h k =
     lt-of-lt-of-le (root-is b .high)

@@ -3,9 +3,10 @@ use mathlib.Core.Bool.{Bool, true, false, cond, _||_}
 use mathlib.Core.List.{List, [], _∷_, _++_}
 use mathlib.Core.Logic.{_≢_}
 use mathlib.Core.Path.{_≡_, refl, sym, _∙_, ap}
-use Prim.Native.Nat.{ℕ, zero, suc, _+_, _*_, _/_, _%_, _≤_, _<_, min}
+use Prim.Native.Nat.{ℕ, zero, suc, _+_, _-_, _*_, _/_, _%_, _≤_, _<_, min}
 use native.Mathlib.Omega.{arith}
 use native.Mathlib.Nat.{le-refl, le-trans}
+use lib.ListN.{length}
 use lib.Dec.{eqb}
 use borrow.Author.Tests.{eqb-true, eqb-false}
 use Rattle.model.specs.Walk.{multiplesFrom, firstVisits, bestOf, isIn}
@@ -52,6 +53,10 @@ rising-from h (next s l k r) = next s (le-trans h l) k r
 pub rising-++ : {lo mid hi : ℕ} {vs ws : List ℕ} → lo ≤ mid → mid ≤ hi → Rising mid lo vs → Rising hi mid ws → Rising hi lo (vs ++ ws)
 rising-++ h k none r = rising-from h r
 rising-++ h k (next s l m q) r = next s l (omega arith) (rising-++ (omega arith) k q r)
+
+pub rising-length : {lo hi : ℕ} {vs : List ℕ} → Rising hi lo vs → length vs ≤ hi - lo
+rising-length none = omega arith
+rising-length (next s l k r) = omega (arith, rising-length r)
 
 pub rising-within : {lo hi : ℕ} {vs : List ℕ} → Rising hi lo vs → (s : ℕ) → isIn s vs ≡ true → (lo ≤ s) × (s < hi)
 rising-within none s e = absurd (not-in-none s e)

@@ -78,7 +78,7 @@ module _ (es : List Element) (some : 0 < length es) (accepted : AllAccepted es) 
   unfolding visits firstBest
   walk-best = bestOf-++ (D es p) (D es p 0) (firstVisits (total es)) (secondVisits es p) ∙ second-best
 
-  -- "what the walk leaves out lies farther"
+  -- demand 3: "what the walk leaves out lies farther"
   pub left-out-farther : (s : ℕ) → LeftOut es p s → D es p (judged es p) < D es p s
   left-out-farther s l = omega (arith, second-best, passed .farther s (omega arith) (omega (arith, l .on)) (l .unvisited))
 

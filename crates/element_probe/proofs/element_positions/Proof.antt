@@ -11,8 +11,7 @@ use Rattle.model.specs.Refusals.{verdict}
 use Rattle.model.specs.Acceptance.{recordRules}
 use Rattle.model.specs.Accepted.{Accepted}
 use Rattle.model.proofs.Accepted.{record-accepted}
-use Rattle.elements.specs.declared.Prepared.{Prepared}
-use Rattle.elements.specs.Prepared.{preparedOf}
+use Rattle.elements.proofs.Preparing.{prepared-element}
 use Rattle.element_probe.specs.Sums.{sumFrom}
 use Rattle.element_probe.proofs.Summed.{of-other-length, of-refused, of-accepted}
 use Rattle.element_probe.proofs.element_positions.Statement.{statement}
@@ -47,13 +46,12 @@ returns-2 : tie.Need-returns-2
 returns-2 c = sym (of-refused _ _ (c .before .before .before .if1 .left) (sym (c .before .before .check-record .ensures) ∙ c .enum-told .given .1))
 
 returns-3 : tie.Need-returns-3
-unfolding preparedOf
 returns-3 c =
     let k = c .before .before in
     let x = k .before .before .before .before .before .before in
     toZ-ofZ w64 (c .positions .result) (record { sfits = c .positions .ok })
     ∙ c .positions .ensures
-    ∙ ap (λ (e : Element). sumFrom e (x .args .count) 0) (ap (λ (p : Prepared). p .element) (c .before .prepare .ensures .0) ∙ k .element .ensures)
+    ∙ ap (λ (e : Element). sumFrom e (x .args .count) 0) (prepared-element _ (c .before .prepare .ensures .0) ∙ k .element .ensures)
     ∙ sym (of-accepted (now (x .args .rec)) (x .args .count) (omega arith) (accepted k))
 
 pub element-positions-spec : {M : Type 1} → statement M

@@ -1,4 +1,4 @@
--- `element_probe::next_on` meets its contract.
+-- `element_probe::next_on` meets its contract: the test is the definition's.
 use native.Mathlib.Omega.{arith}
 use borrow.Author.Needs.{needs}
 use borrow.Author.Tests.{lt-ltb, le-ltb}

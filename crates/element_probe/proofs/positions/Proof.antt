@@ -1,6 +1,6 @@
 -- `element_probe::positions` meets its contract: what is added so far and what is left make the whole sum, and each position adds less than 2^30.
 use mathlib.Core.Path.{_∙_, subst}
-use Prim.Native.Nat.{ℕ, _-_}
+use Prim.Native.Nat.{ℕ}
 use native.Mathlib.Omega.{arith}
 use mir.Syntax.{w64}
 use mir.Val.{toZ}

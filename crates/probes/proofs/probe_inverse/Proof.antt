@@ -9,7 +9,7 @@ use denote.Ref.{now}
 use Rattle.model.specs.Answers.{inverse}
 use Rattle.codes.proofs.Widths.{wide-fits, wide}
 use Rattle.probes.specs.Replies.{fromInverse}
-use Rattle.probes.proofs.Rooms.{inverse-18, inverse-written, sent-as}
+use Rattle.probes.proofs.Rooms.{inverse-18, inverse-call-sent, sent-as}
 use Rattle.probes.proofs.Sent.{same-sendable, inverse-sendable}
 use borrow.Author.Needs.{needs}
 use Rattle.probes.proofs.probe_inverse.Statement.{statement}
@@ -63,7 +63,7 @@ returns-2 : tie.Need-returns-2
 returns-2 c =
     let m = c .before .before in
     let r = m .before .before in
-    sent-as (now (start r .args .out)) (m .send .ensures .0) (m .send .ensures .1) (reply r) ∙ sym (inverse-written (file r) (now (start r .args .out)) (test r .if1 .left) (station r) (offset r))
+    sent-as (now (start r .args .out)) (m .send .ensures .0) (m .send .ensures .1) (reply r) ∙ sym (inverse-call-sent (file r) (now (start r .args .out)) (test r .if1 .left) (station r) (offset r))
 
 pub probe-inverse-spec : {M : Type 1} → statement M
 probe-inverse-spec =

@@ -8,7 +8,7 @@ use Rattle.model.specs.declared.Located.{Located}
 use Rattle.model.specs.Answers.{located}
 use Rattle.codes.proofs.Widths.{as-came}
 use Rattle.probes.specs.Replies.{fromLocated, Sendable}
-use Rattle.probes.proofs.Rooms.{locate-18, locate-sent, sent-as}
+use Rattle.probes.proofs.Rooms.{locate-18, locate-call-sent, sent-as}
 use Rattle.probes.proofs.Sent.{same-sendable, located-sendable}
 use borrow.Author.Needs.{needs}
 use Rattle.probes.proofs.probe_locate.Statement.{statement}
@@ -57,7 +57,7 @@ returns-2 c =
     let m = c .before .before in
     let r = m .before .before in
     let k = r .before in
-    sent-as (now (start k .args .out)) (m .send .ensures .0) (m .send .ensures .1) (reply r) ∙ sym (locate-sent (file k) (now (start k .args .out)) (k .before .before .if1 .left) (q k))
+    sent-as (now (start k .args .out)) (m .send .ensures .0) (m .send .ensures .1) (reply r) ∙ sym (locate-call-sent (file k) (now (start k .args .out)) (k .before .before .if1 .left) (q k))
 
 pub probe-locate-spec : {M : Type 1} → statement M
 probe-locate-spec =

@@ -8,7 +8,7 @@ use mir.ValLaws.{toZ-pos}
 use denote.Ref.{now}
 use Rattle.model.specs.Answers.{placed}
 use Rattle.probes.specs.Replies.{fromPlaced}
-use Rattle.probes.proofs.Rooms.{position-18, position-sent, sent-as}
+use Rattle.probes.proofs.Rooms.{position-18, position-call-sent, sent-as}
 use Rattle.probes.proofs.Sent.{same-sendable, placed-sendable}
 use borrow.Author.Needs.{needs}
 use Rattle.probes.proofs.probe_position.Statement.{statement}
@@ -54,7 +54,7 @@ returns-2 : tie.Need-returns-2
 returns-2 c =
     let m = c .before .before in
     let r = m .before .before in
-    sent-as (now (start r .args .out)) (m .send .ensures .0) (m .send .ensures .1) (reply r) ∙ sym (position-sent (file r) (now (start r .args .out)) (test r .if1 .left) (station r))
+    sent-as (now (start r .args .out)) (m .send .ensures .0) (m .send .ensures .1) (reply r) ∙ sym (position-call-sent (file r) (now (start r .args .out)) (test r .if1 .left) (station r))
 
 pub probe-position-spec : {M : Type 1} → statement M
 probe-position-spec =

@@ -2,20 +2,21 @@
 -- `search machine` finds the term without the casts, and a test that computes shows that each cast on the way fits; so a need of a function is one line:
 --   fits-machine (Γ c) (search machine depth 20) tt          a result fits its width
 --   by-machine (Γ c) (search machine depth 20) (search machine depth 20) tt     a result is what the contract says
+--   abs-machine (Γ c) a (search machine depth 20) tt          a result a is at most as large as a callee asks
 -- where Γ c lists the arguments, bounds on their absolute values, and why these hold.
 use mathlib.Core.Path.{_≡_, refl, sym, _∙_, ap, ap₂, subst₂, subst}
 use mathlib.Core.Bool.{Bool, true, false, not, _&&_}
 use mathlib.Core.List.{List}
-use Prim.Native.Nat.{ℕ, _^_}
-use lib.Dec.{T, ltb}
-use lib.IntN.{ℤ, pos, negsuc, negℤ, _+ℤ_, _*ℤ_}
-use lib.Signed.{ltZ, _<ℤ_, _≤ℤ_, ltZ-no, ltZ-yes}
+use Prim.Native.Nat.{ℕ, _^_, _≤_}
+use lib.Dec.{T, leb, ltb}
+use lib.IntN.{ℤ, pos, negsuc, negℤ, natAbs, _+ℤ_, _*ℤ_}
+use lib.Signed.{ltZ, leZ, _<ℤ_, _≤ℤ_, ltZ-no, leZ-yes, ltZ-yes}
 use mir.Syntax.{Width}
 use mir.Val.{SFits, hbits, toZ, ofZ}
 use mir.Facts.{toZ-ofZ, and-yes}
 use Rattle.integers.proofs.Identity.{Expr, var, lit, _⊕_, _⊖_, _⊗_, neg, same-value, eval, isZero, norm}
 use Rattle.integers.proofs.Written.{Listed, here, there, numeral}
-use Rattle.integers.proofs.Ranges.{Within, bound, fits-by}
+use Rattle.integers.proofs.Ranges.{Within, bound, abs-by, fits-by}
 
 pub record Env : Type 0 where
   pub vars : List ℤ
@@ -74,6 +75,12 @@ by-machine Γ p q t =
 
 pub fits-machine : (Γ : Env) {w : Width} {a : ℤ} (d : Machine Γ a) → T (d .good && below w Γ (d .expr)) → SFits w a
 fits-machine Γ {w} d t = let g = and-yes (d .good) (below w Γ (d .expr)) t in fits-of w d (g .0) (g .1)
+
+-- the absolute value of a term, by the bounds of its variables
+pub abs-machine : (Γ : Env) (a : ℤ) {k : ℕ} (d : Machine Γ a) → T (d .good && leb (bound (Γ .bounds) (d .expr)) k) → natAbs a ≤ k
+abs-machine Γ a {k} d t =
+    let g = and-yes (d .good) (leb (bound (Γ .bounds) (d .expr)) k) t in
+    abs-by {ρ = Γ .vars} (Γ .bounds) a (Γ .within) (record { expr = d .expr; means = d .means (g .0) }) (g .1)
 
 -- a term without its casts
 pub plain : (Γ : Env) {a : ℤ} (d : Machine Γ a) → T (d .good) → a ≡ eval (Γ .vars) (d .expr)

@@ -3,24 +3,23 @@ use mathlib.Core.List.{List}
 use mathlib.Core.Path.{_≡_, ap}
 use Prim.Native.Nat.{ℕ, _+_, _*_, _^_, _≤_, _<_}
 use native.Mathlib.Omega.{arith}
-use native.Mathlib.Nat.{mul-le-mul, le-of-lt}
+use native.Mathlib.Nat.{le-of-lt}
 use lib.ListN.{length}
-use lib.IntN.{ℤ, natAbs, _+ℤ_, _-ℤ_, _*ℤ_}
+use lib.IntN.{ℤ, natAbs, _-ℤ_}
 use Rattle.integers.specs.Plane.{squared}
-use Rattle.integers.proofs.Abs.{natAbs-+, natAbs--, natAbs-*, ≤-square}
+use Rattle.integers.proofs.Abs.{≤-square}
 use Rattle.model.specs.declared.Element.{Element}
 use Rattle.model.specs.declared.Point.{Point}
 use Rattle.model.specs.declared.Located.the-variants.{At as LocatedAt}
-use Rattle.model.specs.Rounding.{ONE}
 use Rattle.model.specs.Accepted.{AllAccepted}
 use Rattle.model.specs.Stations.{positionAt, tangentAt, distanceSq, D}
 use Rattle.model.specs.Judged.{judged, residualOf, offsetOf, minus, residualAt, offsetAt}
-use Rattle.model.specs.Answers.{locatedOn}
+use Rattle.model.specs.Answers.{farthest, locatedOn}
 use Rattle.model.proofs.Judged.{judged-least}
-use Rattle.elements.proofs.Extent.{near-within}
+use Rattle.elements.proofs.Extent.{near-turn}
+use Rattle.stations.proofs.StationExtent.{station-placeable}
 use Rattle.stations.proofs.StationTotal.{total-within}
 use Rattle.walk_laws.proofs.Outcomes.{answered}
-use Rattle.nearest.proofs.Placing.{placeable}
 
 pub record Fits (station : ℕ) (offset residual : ℤ) : Type 0 where
   pub short : station ≤ 30000000
@@ -28,29 +27,21 @@ pub record Fits (station : ℕ) (offset residual : ℤ) : Type 0 where
   pub along : natAbs residual ≤ 80000000
 
 -- a side of a squared distance
-side : (a b : ℕ) → a * a + b * b ≤ 400000000000000 → a ≤ 20000000
+side : (a b : ℕ) → a * a + b * b ≤ farthest → a ≤ 20000000
 side a b h = ≤-square (omega (arith, h))
 
-product-small : (t d : ℤ) → natAbs t < 2 ^ 31 → natAbs d ≤ 20000000 → natAbs (t *ℤ d) ≤ 2 ^ 31 * 20000000
-product-small t d h k = omega (arith, natAbs-* t d, mul-le-mul (le-of-lt h) k)
-
+-- along a direction with components below 2^31, and aside
 module _ (t d : Point) (hx : natAbs (t .x) < 2 ^ 31) (hy : natAbs (t .y) < 2 ^ 31) (kx : natAbs (d .x) ≤ 20000000) (ky : natAbs (d .y) ≤ 20000000) where
   residual-small : natAbs (residualOf t d) ≤ 80000000
   unfolding residualOf
-  residual-small =
-      let a = t .x *ℤ d .x in
-      let b = t .y *ℤ d .y in
-      near-within (a +ℤ b) ONE 80000000 (omega arith) (omega (arith, natAbs-+ a b, product-small (t .x) (d .x) hx kx, product-small (t .y) (d .y) hy ky))
+  residual-small = near-turn 2 (t .x) (d .x) (t .y) (d .y) (le-of-lt hx) (le-of-lt hy) kx ky .1
 
   offset-small : natAbs (offsetOf t d) ≤ 80000000
   unfolding offsetOf
-  offset-small =
-      let a = t .x *ℤ d .y in
-      let b = t .y *ℤ d .x in
-      near-within (a -ℤ b) ONE 80000000 (omega arith) (omega (arith, natAbs-- a b, product-small (t .x) (d .y) hx ky, product-small (t .y) (d .x) hy kx))
+  offset-small = near-turn 2 (t .x) (d .y) (t .y) (d .x) (le-of-lt hx) (le-of-lt hy) ky kx .0
 
 -- the differences from the position
-near-sides : (p q : Point) → distanceSq p q ≤ 400000000000000 → (natAbs (minus p q .x) ≤ 20000000) × (natAbs (minus p q .y) ≤ 20000000)
+near-sides : (p q : Point) → distanceSq p q ≤ farthest → (natAbs (minus p q .x) ≤ 20000000) × (natAbs (minus p q .y) ≤ 20000000)
 unfolding distanceSq squared minus
 near-sides p q h =
     let a = natAbs (p .x -ℤ q .x) in
@@ -64,7 +55,7 @@ answer-fits es most accepted p station offset residual count e =
     let a = answered es p station offset residual count .0 e in
     let s = judged es p in
     let on = judged-least es p .within in
-    let t = placeable es s accepted on in
+    let t = station-placeable es s accepted on in
     let d = near-sides p (positionAt es s) (a .near) in
     record {
       short = omega (arith, a .station, on, total-within es accepted);

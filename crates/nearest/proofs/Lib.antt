@@ -1,4 +1,3 @@
 -- What is proved of the answer at the station judged.
-pub mod Placing
 pub mod Deciding
 pub mod Fitting

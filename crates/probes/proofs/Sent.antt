@@ -1,5 +1,5 @@
 -- Every answer over a crest's bytes can be sent: its numbers fit 32 bits, and its refusal is one of the table's.
-use Prim.Native.Nat.{ℕ, _≤_, _<_, _^_}
+use Prim.Native.Nat.{ℕ, _≤_}
 use mathlib.Core.List.{List, [], _∷_, _++_}
 use mathlib.Core.Path.{_≡_, refl, sym, _∙_, subst}
 use native.Mathlib.Omega.{arith}
@@ -18,6 +18,7 @@ use Rattle.model.specs.Stations.{isStation}
 use Rattle.model.specs.Judged.{judged}
 use Rattle.model.specs.Answers.{paperOfOutcome, pointRules, lineRules, placedIf, placed, locatedIf, locatedAfter, located, inverseIf, inverseAfter, inverse}
 use Rattle.model.proofs.Answers.{located-accepted, located-before}
+use Rattle.elements.specs.Extent.{Placeable}
 use Rattle.alignment.proofs.AcceptCrest.{crest-accepted, crest-some}
 use Rattle.stations.proofs.AskSmall.{placed-small, inverse-of-small}
 use Rattle.stations.proofs.StationTotal.{total-within}
@@ -38,9 +39,9 @@ same-sendable {n = n} {r = r} {s = s} e f k = subst (λ (l : ℕ). Sendable l r)
 -- ---- an outcome's refusal, or an answer whose numbers fit
 
 placed-if : (o : Outcome) (es : List Element) (s : ℕ) → Small (paperOfOutcome o) →
-    ((x y tx ty : ℤ) → placedIf o es s ≡ PlacedAt x y tx ty → (natAbs x ≤ 262500000) × (natAbs y ≤ 262500000) × (natAbs tx < 2 ^ 31) × (natAbs ty < 2 ^ 31)) → Sendable 16 (fromPlaced (placedIf o es s))
+    ((x y tx ty : ℤ) → placedIf o es s ≡ PlacedAt x y tx ty → Placeable (record { x = x; y = y; tx = tx; ty = ty })) → Sendable 16 (fromPlaced (placedIf o es s))
 unfolding placedIf paperOfOutcome fromPlaced Sendable
-placed-if Done es s k f = let a = f _ _ _ _ refl in (refl, fits-below (omega (arith, a .0)), fits-below (omega (arith, a .1)), fits-below (omega (arith, a .2)), fits-below (omega (arith, a .3)))
+placed-if Done es s k f = let a = f _ _ _ _ refl in (refl, fits-below (omega (arith, a .x)), fits-below (omega (arith, a .y)), fits-below (a .tx), fits-below (a .ty))
 placed-if (Refused why) es s k f = k
 
 -- the station, offset and residual, and the count of visits

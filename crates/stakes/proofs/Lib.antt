@@ -1,3 +1,2 @@
 -- The laws of the stake-out.
-pub mod StakeMachine
 pub mod StakeAnswers

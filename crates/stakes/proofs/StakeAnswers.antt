@@ -1,14 +1,11 @@
 -- The stake-out's answers in the order of its rules: 11 for the stake's own point, 11 for its target, 7 for the heading, then the move.
 use mathlib.Core.Bool.{Bool, true, false}
-use mathlib.Core.List.{[], _∷_}
 use mathlib.Core.Path.{_≡_, refl, sym, _∙_}
 use native.Mathlib.Omega.{arith}
 use Prim.Native.Nat.{ℕ, _*_, _≤_, _^_}
 use borrow.Author.Tests.{leb-true}
 use lib.IntN.{ℤ, pos, natAbs, negℤ, _+ℤ_, _-ℤ_, _*ℤ_}
 use Rattle.integers.proofs.Abs.{natAbs-neg, natAbs--}
-use Rattle.integers.proofs.Ranges.{abs-by}
-use Rattle.integers.proofs.Written.{writing}
 use Rattle.model.specs.declared.Point.{Point}
 use Rattle.model.specs.declared.Move.the-variants.{By, Refused}
 use Rattle.model.specs.Refusals.{verdict, orRefused, refusal, number}
@@ -16,9 +13,9 @@ use Rattle.model.specs.Acceptance.{frame, unitSlack, inFrame, isUnit}
 use Rattle.model.specs.Rounding.{ONE, near}
 use Rattle.model.specs.Judged.{minus}
 use Rattle.model.specs.Answers.{moveOf, moveRules, moveIf, stakeOut}
-use Rattle.elements.proofs.Extent.{near-within, unit-within, unit-within′}
+use Rattle.elements.proofs.Extent.{near-turn, unit-within, unit-within′}
 use Rattle.records.proofs.Frame.{framed}
-use Rattle.stakes.specs.StakeRanges.{Turned, Stakeable}
+use Rattle.stakes.specs.StakeRanges.{Stakeable}
 
 module _ (own target : Point) (c s : ℤ) where
   pub own-outside : inFrame (own .x) (own .y) ≡ false → stakeOut own target c s ≡ Refused (record { number = 11; place = 0 })
@@ -47,15 +44,10 @@ module _ (own target : Point) (c s : ℤ) where
           let u : natAbs (c *ℤ c +ℤ s *ℤ s -ℤ pos (2 ^ 60)) ≤ unitSlack = leb-true _ _ h in
           record { ownX = o .0; ownY = o .1; targetX = t .0; targetY = t .1; first = unit-within c s u; second = unit-within′ c s u }
 
--- a move along either axis is below 2^30: the products of a component and a difference are at most 400,000,000 times ONE
-component-small : (c x s y : ℤ) → Turned c x s y → natAbs (near (c *ℤ x +ℤ s *ℤ y) ONE) ≤ 4 * frame
-component-small c x s y t =
-    near-within (c *ℤ x +ℤ s *ℤ y) ONE (4 * frame) (omega arith)
-    (abs-by {ρ = c ∷ x ∷ s ∷ y ∷ []} (ONE ∷ 2 * frame ∷ ONE ∷ 2 * frame ∷ []) (c *ℤ x +ℤ s *ℤ y) (t .first, (t .along, (t .second, (t .aside, tt)))) (search writing depth 20) tt)
-
 apart : (a b : ℤ) → natAbs a ≤ frame → natAbs b ≤ frame → natAbs (a -ℤ b) ≤ 2 * frame
 apart a b h k = omega (arith, natAbs-- a b)
 
+-- a move along either axis is below 2^30: the products of a component and a difference are at most 400,000,000 times ONE
 moved-small : (own target : Point) (c s : ℤ) {forward left : ℤ} → Stakeable own target c s → moveOf own target c s ≡ By forward left → (natAbs forward ≤ 4 * frame) × (natAbs left ≤ 4 * frame)
 unfolding moveOf minus
 moved-small own target c s {forward} {left} k e =
@@ -65,10 +57,8 @@ moved-small own target c s {forward} {left} k e =
     let y = apart (target .y) (own .y) (k .targetY) (k .ownY) in
     let f : forward ≡ near (c *ℤ dx +ℤ s *ℤ dy) ONE = cc in
     let l : left ≡ near (negℤ s *ℤ dx +ℤ c *ℤ dy) ONE = cc in
-    let m : natAbs (negℤ s) ≤ ONE = omega (arith, natAbs-neg s, k .second) in (
-      rw f (component-small c dx s dy (record { first = k .first; along = x; second = k .second; aside = y })),
-      rw l (component-small (negℤ s) dx c dy (record { first = m; along = x; second = k .first; aside = y })),
-    )
+    let m : natAbs (negℤ s) ≤ ONE = omega (arith, natAbs-neg s, k .second) in
+    (rw f (near-turn 1 c dx s dy (k .first) (k .second) x y .1), rw l (near-turn 1 (negℤ s) dx c dy m (k .first) x y .1))
 
 -- what is answered fits an i32
 pub move-small : (own target : Point) (c s : ℤ) {forward left : ℤ} → stakeOut own target c s ≡ By forward left → (natAbs forward ≤ 4 * frame) × (natAbs left ≤ 4 * frame)

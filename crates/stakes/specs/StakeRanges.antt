@@ -1,16 +1,9 @@
 -- What a move asks of its numbers.
-use Prim.Native.Nat.{_*_, _≤_}
+use Prim.Native.Nat.{_≤_}
 use lib.IntN.{ℤ, natAbs}
 use Rattle.model.specs.declared.Point.{Point}
 use Rattle.model.specs.Rounding.{ONE}
 use Rattle.model.specs.Acceptance.{frame}
-
--- a direction (c, s), and a difference (x, y) of two points of the frame
-pub record Turned (c x s y : ℤ) : Type 0 where
-  pub first : natAbs c ≤ ONE
-  pub along : natAbs x ≤ 2 * frame
-  pub second : natAbs s ≤ ONE
-  pub aside : natAbs y ≤ 2 * frame
 
 -- two points of the frame, and a heading
 pub record Stakeable (own target : Point) (c s : ℤ) : Type 0 where

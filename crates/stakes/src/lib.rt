@@ -1,23 +1,13 @@
 // The stake-out: how far to move a stake to its target, forward along the heading and to the left of it.
-use elements::rounding::near_one;
+use elements::rounding::near_sum;
 use model::Move;
 use model::Point;
 use model::Refusal;
 use records::in_frame;
 use records::is_unit;
 ghost use mathlib.Core.Path.{_≡_};
-ghost use lib.IntN.{_+ℤ_, _*ℤ_};
-ghost use Rattle.model.specs.Rounding.{ONE, near};
 ghost use Rattle.model.specs.Answers.{moveOf, stakeOut};
-ghost use Rattle.stakes.specs.StakeRanges.{Turned, Stakeable};
-
-// A difference (x, y) along the direction (c, s).
-fn component(c: i64, x: i64, s: i64, y: i64) -> i64
-    requires { ⌜ Turned c x s y ⌝ }
-    ensures { λ r. ⌜ r ≡ near (c *ℤ x +ℤ s *ℤ y) ONE ⌝ }
-{
-    near_one(c * x + s * y)
-}
+ghost use Rattle.stakes.specs.StakeRanges.{Stakeable};
 
 // The move between two points of the frame.
 fn move_by(own: Point, target: Point, c: i64, s: i64) -> Move
@@ -27,8 +17,8 @@ fn move_by(own: Point, target: Point, c: i64, s: i64) -> Move
     let dx = target.x - own.x;
     let dy = target.y - own.y;
     Move::By {
-        forward: component(c, dx, s, dy),
-        left: component(-s, dx, c, dy),
+        forward: near_sum(c, dx, s, dy),
+        left: near_sum(-s, dx, c, dy),
     }
 }
 

@@ -1,5 +1,5 @@
 -- What is answered for a station that is in range, and for one that is not.
-use Prim.Native.Nat.{ℕ, _≤_, _<_, _^_}
+use Prim.Native.Nat.{ℕ}
 use mathlib.Core.Bool.{Bool, true, false}
 use mathlib.Core.List.{List, [], _∷_}
 use mathlib.Core.Path.{_≡_, refl, ap}
@@ -11,9 +11,10 @@ use Rattle.model.specs.Refusals.{rule₀, verdict, refusal, number, askedOutOfR
 use Rattle.model.specs.Stations.{isStation, positionAt, tangentAt}
 use Rattle.model.specs.Answers.{placedIf}
 use Rattle.model.specs.Accepted.{AllAccepted}
+use Rattle.elements.specs.Extent.{Placeable}
 use Rattle.crestfile.proofs.Orders.{one-done, one-refused}
 use Rattle.stations.proofs.StationRange.{station-within}
-use Rattle.stations.proofs.StationExtent.{station-bounded}
+use Rattle.stations.proofs.StationExtent.{station-placeable}
 
 module _ (es : List Element) (s : ℕ) {b : Bool} where
   pub place-refused : b ≡ false → placedIf (verdict (rule₀ askedOutOfRange b ∷ [])) es s ≡ Refused (record { number = 15; place = 0 })
@@ -25,16 +26,16 @@ module _ (es : List Element) (s : ℕ) {b : Bool} where
   place-done h = ap (λ o. placedIf o es s) (one-done askedOutOfRange 0 h)
 
 -- what is answered fits an i32
-pub place-small : (es : List Element) (s : ℤ) → AllAccepted es → {x y tx ty : ℤ} → placedIf (verdict (rule₀ askedOutOfRange (isStation es s) ∷ [])) es (natAbs s) ≡ At x y tx ty → (natAbs x ≤ 262500000) × (natAbs y ≤ 262500000) × (natAbs tx < 2 ^ 31) × (natAbs ty < 2 ^ 31)
+pub place-small : (es : List Element) (s : ℤ) → AllAccepted es → {x y tx ty : ℤ} → placedIf (verdict (rule₀ askedOutOfRange (isStation es s) ∷ [])) es (natAbs s) ≡ At x y tx ty → Placeable (record { x = x; y = y; tx = tx; ty = ty })
 place-small es s a {x} {y} {tx} {ty} q = go (isStation es s) refl
   where
-    go : (b : Bool) → isStation es s ≡ b → (natAbs x ≤ 262500000) × (natAbs y ≤ 262500000) × (natAbs tx < 2 ^ 31) × (natAbs ty < 2 ^ 31)
+    go : (b : Bool) → isStation es s ≡ b → Placeable (record { x = x; y = y; tx = tx; ty = ty })
     go false h = let r = place-refused es (natAbs s) h in let z : _≡_ {A = ℕ} 0 1 = cc in absurd (omega arith)
     go true h =
         let r = place-done es (natAbs s) h in
-        let b = station-bounded es (natAbs s) a (station-within es s h .1) in
+        let b = station-placeable es (natAbs s) a (station-within es s h .1) in
         let ex : x ≡ positionAt es (natAbs s) .x = cc in
         let ey : y ≡ positionAt es (natAbs s) .y = cc in
         let etx : tx ≡ tangentAt es (natAbs s) .x = cc in
         let ety : ty ≡ tangentAt es (natAbs s) .y = cc in
-        (rw ex (b .x), rw ey (b .y), rw etx (b .tx), rw ety (b .ty))
+        rw (ex, ey, etx, ety) b

@@ -11,25 +11,25 @@ use Rattle.model.specs.Rounding.{ONE, near}
 use Rattle.model.specs.Stations.{total, positionAt, tangentAt}
 use Rattle.model.specs.Answers.{widestOffset}
 use Rattle.model.specs.Accepted.{AllAccepted}
-use Rattle.elements.proofs.Extent.{extent, near-within}
+use Rattle.elements.specs.declared.Placement.{Placement}
+use Rattle.elements.specs.Reached.{placementOf}
+use Rattle.elements.specs.Extent.{Placeable}
+use Rattle.elements.proofs.Errors.{near-within}
+use Rattle.elements.proofs.Extent.{extent}
 use Rattle.stations.proofs.StationAt.{at-reachable}
 
--- the position in grains, and the components of the direction
-pub record Bounded (es : List Element) (s : ℕ) : Type 0 where
-  pub x : natAbs (positionAt es s .x) ≤ 262500000
-  pub y : natAbs (positionAt es s .y) ≤ 262500000
-  pub tx : natAbs (tangentAt es s .x) < 2 ^ 31
-  pub ty : natAbs (tangentAt es s .y) < 2 ^ 31
+abbrev placedIn : List Element → ℕ → Placement
+placedIn es s = placementOf (positionAt es s) (tangentAt es s)
 
 -- no element, and 0
-none-bounded : Bounded [] 0
+none-placeable : Placeable (placedIn [] 0)
 unfolding positionAt tangentAt
-none-bounded = record { x = omega arith; y = omega arith; tx = omega arith; ty = omega arith }
+none-placeable = record { x = omega arith; y = omega arith; tx = omega arith; ty = omega arith }
 
-pub station-bounded : (es : List Element) (s : ℕ) → AllAccepted es → s ≤ total es → Bounded es s
+pub station-placeable : (es : List Element) (s : ℕ) → AllAccepted es → s ≤ total es → Placeable (placementOf (positionAt es s) (tangentAt es s))
 unfolding positionAt tangentAt total
-station-bounded [] s a h = let e : 0 ≡ s = omega arith in subst (Bounded []) e none-bounded
-station-bounded (e ∷ es) s a h =
+station-placeable [] s a h = let e : 0 ≡ s = omega arith in subst (λ (n : ℕ). Placeable (placedIn [] n)) e none-placeable
+station-placeable (e ∷ es) s a h =
     let r = at-reachable (e ∷ es) s (omega arith) a h in
     let b = extent (r .accepted) (r .within) in
     record { x = b .x; y = b .y; tx = b .tx; ty = b .ty }
@@ -42,4 +42,4 @@ module _ (w t : ℤ) (h : natAbs w ≤ widestOffset) (k : natAbs t < 2 ^ 31) whe
       omega (arith, natAbs-* w t)
 
   pub near-aside-within : natAbs (near (w *ℤ t) ONE) ≤ 2 * widestOffset
-  near-aside-within = near-within (w *ℤ t) ONE (2 * widestOffset) (omega arith) aside-within
+  near-aside-within = near-within {d = ONE} (omega arith) (w *ℤ t) aside-within

@@ -6,10 +6,7 @@ use mir.Facts.{toZ-ofZ}
 use mir.Syntax.{w64}
 use mir.Val.{SFits}
 use Rattle.integers.proofs.Ranges.{fits-below}
-use Rattle.elements.proofs.Widths.{held, held-small}
-
-pub held-as : {x y : ℤ} → x ≡ y → natAbs y ≤ 2 ^ 32 → held x ≡ y
-held-as {y = y} e h = ap held e ∙ held-small y h
+use Rattle.elements.proofs.Widths.{held, held-as}
 
 -- f of x and m, which are y and n, through their bits
 pub record Computed (f : ℤ → ℤ → ℤ) (y n x m : ℤ) : Type 0 where

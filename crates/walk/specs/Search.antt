@@ -10,6 +10,7 @@ use Rattle.integers.specs.Root.{root}
 use Rattle.model.specs.declared.Element.{Element}
 use Rattle.model.specs.declared.Alignment.{Alignment}
 use Rattle.model.specs.declared.Point.{Point}
+use Rattle.model.specs.Acceptance.{frame, longestElement}
 use Rattle.model.specs.Series.{positionOn}
 use Rattle.model.specs.Stations.{distanceSq, D, used}
 use Rattle.model.specs.Judged.{judged}
@@ -23,8 +24,8 @@ use Rattle.elements.specs.Prepared.{Ready}
 
 -- "The frame: every given point lies within ±200,000,000 in both coordinates."
 pub record InFrame (q : Point) : Type 0 where
-  pub x : natAbs (q .x) ≤ 200000000
-  pub y : natAbs (q .y) ≤ 200000000
+  pub x : natAbs (q .x) ≤ frame
+  pub y : natAbs (q .y) ≤ frame
 
 -- ---- one visit
 
@@ -108,7 +109,7 @@ pub record Passable (p : Prepared) (own start : ℕ) (q : Point) (w : Seen) : Ty
   pub ready : Ready p
   pub frame : InFrame q
   pub short : own ≤ p .element .length + 1
-  pub long : p .element .length ≤ 500000
+  pub long : p .element .length ≤ longestElement
   pub early : start ≤ 30000000
   pub best : w .best ≤ 2 ^ 62
   pub visits : w .visits ≤ 2 ^ 61

@@ -6,8 +6,10 @@ ghost use mathlib.Core.Path.{_≡_};
 ghost use Prim.Native.Nat.{_+_, _-_, _*_, _/_, _^_, _<_, _≤_};
 ghost use lib.IntN.{natAbs, _-ℤ_};
 ghost use Rattle.integers.specs.Root.{root};
+ghost use Rattle.model.specs.Acceptance.{frame};
 ghost use Rattle.model.specs.Series.{positionOn};
 ghost use Rattle.model.specs.Stations.{distanceSq};
+ghost use Rattle.elements.specs.Extent.{widestPosition};
 ghost use Rattle.elements.specs.Prepared.{Ready};
 ghost use Rattle.walk.specs.Search.{InFrame, seenAt, Known, Strided};
 
@@ -21,7 +23,7 @@ pub struct Stride {
 
 // The square of a difference.
 fn squared_gap(a: i64, b: i64) -> u64
-    requires { ⌜ (natAbs a ≤ 200000000) × (natAbs b ≤ 262500000) ⌝ }
+    requires { ⌜ (natAbs a ≤ frame) × (natAbs b ≤ widestPosition) ⌝ }
     ensures { λ r. ⌜ r ≡ natAbs (a -ℤ b) * natAbs (a -ℤ b) ⌝ }
     ensures small { λ r. ⌜ r ≤ 2 ^ 60 ⌝ }
 {

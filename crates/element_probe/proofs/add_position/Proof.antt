@@ -7,6 +7,7 @@ use lib.IntN.{pos, natAbs, _+ℤ_, _*ℤ_}
 use borrow.Author.Needs.{needs}
 use Rattle.integers.proofs.Machine.{Env, env, machine, fits-machine, by-machine}
 use Rattle.model.specs.declared.Point.{Point}
+use Rattle.elements.specs.Extent.{widestPosition}
 use Rattle.elements.proofs.Extent.{extent}
 use Rattle.element_probe.specs.Sums.{mixed}
 use Rattle.element_probe.proofs.add_position.Statement.{statement}
@@ -20,8 +21,8 @@ module _ (c : tie.After-position) where
   Γ =
       let x = c .before in
       let n = extent (x .pre .0 .accepted) (x .pre .1 .0) in
-      env (x .args .sum ∷ c .position .result .x ∷ c .position .result .y ∷ []) (2 ^ 62 ∷ 262500000 ∷ 262500000 ∷ [])
-      (omega (arith, x .pre .1 .1), (subst (λ (p : Point). natAbs (p .x) ≤ 262500000) (sym (c .position .ensures)) (n .x), (subst (λ (p : Point). natAbs (p .y) ≤ 262500000) (sym (c .position .ensures)) (n .y), tt)))
+      env (x .args .sum ∷ c .position .result .x ∷ c .position .result .y ∷ []) (2 ^ 62 ∷ widestPosition ∷ widestPosition ∷ [])
+      (omega (arith, x .pre .1 .1), (subst (λ (p : Point). natAbs (p .x) ≤ widestPosition) (sym (c .position .ensures)) (n .x), (subst (λ (p : Point). natAbs (p .y) ≤ widestPosition) (sym (c .position .ensures)) (n .y), tt)))
 
 mul-result : tie.Need-mul-result
 mul-result c = fits-machine (Γ (c .before .before)) (search machine depth 20) tt

@@ -18,18 +18,24 @@ use Rattle.model.specs.Acceptance.{inFrame}
 use Rattle.model.specs.Stations.{used, total, positionAt, tangentAt, D}
 use Rattle.model.specs.Judged.{judged, residualAt, offsetAt}
 use Rattle.model.specs.Walk.{visitCount}
+use Rattle.model.specs.Answers.{farthest, pastEnd}
 use Rattle.model.proofs.Judged.{judged-least}
 use Rattle.elements.specs.declared.Placement.{Placement}
+use Rattle.elements.specs.Extent.{Placeable}
+use Rattle.stations.proofs.StationExtent.{station-placeable}
 use Rattle.walk.specs.declared.Seen.{Seen}
-use Rattle.walk.specs.Search.{walkedOf}
+use Rattle.records.proofs.Frame.{framed as within-frame}
+use Rattle.walk.specs.Search.{InFrame, walkedOf}
 use Rattle.nearest.specs.declared.sides.Sides.{Sides}
-use Rattle.nearest.specs.Sides.{Placeable, sidesOf}
-use Rattle.nearest.proofs.Placing.{placeable, in-frame}
+use Rattle.nearest.specs.Sides.{sidesOf}
 use Rattle.nearest.proofs.Deciding.{gives-11, gives-12, gives-13, gives-14, gives-answer}
 use Rattle.nearest.proofs.locate.Statement.{statement}
 use Rattle.nearest.proofs.locate.Tie as tie
 
 -- ---- in the frame
+
+in-frame : (q : Point) → inFrame (q .x) (q .y) ≡ true → InFrame q
+in-frame q e = let b = within-frame (q .x) (q .y) e in record { x = b .0; y = b .1 }
 
 framed : (c : tie.After-in-frame) → let q = c .before .before .before .args .q in c .in-frame .result ≡ inFrame (q .x) (q .y)
 framed c =
@@ -97,22 +103,22 @@ module _ (c : tie.After-to-point) where
 
 -- ---- the tests of 13 and 14
 
-before-tested : (c : tie.After-before-start) → let w = walked (c .before .before) in c .before-start .result ≡ (eqb (s w) 0 && ltZ (residualAt (es w) (q w) (s w)) (negℤ (pos 100)))
+before-tested : (c : tie.After-before-start) → let w = walked (c .before .before) in c .before-start .result ≡ (eqb (s w) 0 && ltZ (residualAt (es w) (q w) (s w)) (negℤ (pos pastEnd)))
 before-tested c =
     let d = c .before .before in
     c .before-start .ensures
-    ∙ ap₂ _&&_ (ap (λ (x : ℕ). eqb x 0) (at-is (walked d))) (ap (λ (z : ℤ). ltZ z (negℤ (pos 100))) (toZ-ofZ (record { sfits = c .before .struct-told3 .given .0 .1 }) ∙ residual-is d))
+    ∙ ap₂ _&&_ (ap (λ (x : ℕ). eqb x 0) (at-is (walked d))) (ap (λ (z : ℤ). ltZ z (negℤ (pos pastEnd))) (toZ-ofZ (record { sfits = c .before .struct-told3 .given .0 .1 }) ∙ residual-is d))
 
-after-tested : (c : tie.After-after-end) → let w = walked (c .before .before .before .before .before .before) in c .after-end .result ≡ (eqb (s w) (total (es w)) && ltZ (pos 100) (residualAt (es w) (q w) (s w)))
+after-tested : (c : tie.After-after-end) → let w = walked (c .before .before .before .before .before .before) in c .after-end .result ≡ (eqb (s w) (total (es w)) && ltZ (pos pastEnd) (residualAt (es w) (q w) (s w)))
 after-tested c =
     let last = c .before .before in
     let d = last .before .before .before .before in
     c .after-end .ensures
-    ∙ ap₂ _&&_ (ap₂ eqb (at-is (walked d)) (last .total .ensures .0)) (ap (ltZ (pos 100)) (toZ-ofZ (record { sfits = c .before .struct-told4 .given .0 .1 }) ∙ residual-is d))
+    ∙ ap₂ _&&_ (ap₂ eqb (at-is (walked d)) (last .total .ensures .0)) (ap (ltZ (pos pastEnd)) (toZ-ofZ (record { sfits = c .before .struct-told4 .given .0 .1 }) ∙ residual-is d))
 
 -- ---- no refusal before 13
 
-near : (c : tie.Else2) → let w = c .before .before in D (es w) (q w) (s w) ≤ 400000000000000
+near : (c : tie.Else2) → let w = c .before .before in D (es w) (q w) (s w) ≤ farthest
 near c = omega (arith, best-is (c .before .before), c .if2 .left)
 
 answer-is : {s t n m : ℕ} {a b x y : ℤ} → s ≡ t → a ≡ b → x ≡ y → n ≡ m → LocatedAt s a x n ≡ LocatedAt t b y m
@@ -150,7 +156,7 @@ to-point-requires : tie.Need-to-point-requires
 to-point-requires c κs =
     let w = c .before .before .before in
     let a = start w in (
-      subst Placeable (sym (c .placed-at .ensures)) (placeable (es w) (c .before .before .before .walk .result .at) (a .pre .each) (at-within w)),
+      subst Placeable (sym (c .placed-at .ensures)) (station-placeable (es w) (c .before .before .before .walk .result .at) (a .pre .each) (at-within w)),
       in-frame (q w) (inside (w .before)),
     )
 

@@ -1,17 +1,16 @@
 -- `stakes::move_by` meets its contract: the difference of the two points, along the heading and to its left.
 use mathlib.Core.List.{[], _∷_}
 use mathlib.Core.Path.{_≡_, ap, _∙_}
-use Prim.Native.Nat.{_*_, _≤_}
-use lib.IntN.{ℤ, pos, natAbs, negℤ, _+ℤ_, _-ℤ_, _*ℤ_}
+use lib.IntN.{ℤ, pos, negℤ, _+ℤ_, _-ℤ_, _*ℤ_}
 use mir.Facts.{toZ-ofZ}
 use mir.Syntax.{w64}
-use Rattle.integers.proofs.Machine.{Env, env, machine, fits-machine, by-machine}
+use Rattle.integers.proofs.Machine.{Env, env, machine, fits-machine, by-machine, abs-machine}
 use Rattle.model.specs.Rounding.{ONE, near}
 use Rattle.model.specs.Acceptance.{frame}
 use Rattle.model.specs.Judged.{minus}
 use Rattle.model.specs.Answers.{moveOf}
+use Rattle.elements.specs.Rounded.{Summable}
 use Rattle.elements.proofs.Widths.{held}
-use Rattle.stakes.proofs.StakeMachine.{abs-machine}
 use Rattle.stakes.proofs.move_by.Statement.{statement}
 use Rattle.stakes.proofs.move_by.Tie as tie
 
@@ -38,20 +37,18 @@ module _ (c : tie.Start) where
   abbrev s′ : ℤ
   s′ = held (pos 0 -ℤ held (c .args .s))
 
-  dx-small : natAbs dx′ ≤ 2 * frame
-  dx-small = abs-machine Γ dx′ (search machine depth 20) tt
+  forward-asks : Summable (held (c .args .c)) dx′ (held (c .args .s)) dy′
+  forward-asks =
+      record {
+        first = abs-machine Γ (held (c .args .c)) (search machine depth 20) tt;
+        along = abs-machine Γ dx′ (search machine depth 20) tt;
+        second = abs-machine Γ (held (c .args .s)) (search machine depth 20) tt;
+        aside = abs-machine Γ dy′ (search machine depth 20) tt;
+      }
 
-  dy-small : natAbs dy′ ≤ 2 * frame
-  dy-small = abs-machine Γ dy′ (search machine depth 20) tt
-
-  c-small : natAbs (held (c .args .c)) ≤ ONE
-  c-small = abs-machine Γ (held (c .args .c)) (search machine depth 20) tt
-
-  s-small : natAbs (held (c .args .s)) ≤ ONE
-  s-small = abs-machine Γ (held (c .args .s)) (search machine depth 20) tt
-
-  minus-s-small : natAbs s′ ≤ ONE
-  minus-s-small = abs-machine Γ s′ (search machine depth 20) tt
+  left-asks : Summable s′ dx′ (held (c .args .c)) dy′
+  left-asks =
+      record { first = abs-machine Γ s′ (search machine depth 20) tt; along = forward-asks .along; second = forward-asks .first; aside = forward-asks .aside }
 
   forward : held (c .args .c) *ℤ dx′ +ℤ held (c .args .s) *ℤ dy′ ≡ c .args .c *ℤ dx +ℤ c .args .s *ℤ dy
   forward = by-machine Γ (search machine depth 20) (search machine depth 20) tt
@@ -68,24 +65,24 @@ sub-dx c = fits-machine (Γ (c .before .before .before .before)) (search machine
 sub-dy : tie.Need-sub-dy
 sub-dy c = fits-machine (Γ (start c)) (search machine depth 20) tt
 
-component-requires : tie.Need-component-requires
-component-requires c κs = let b = start c in record { first = c-small b; along = dx-small b; second = s-small b; aside = dy-small b }
+near-sum-requires : tie.Need-near-sum-requires
+near-sum-requires c κs = forward-asks (start c)
 
-sub-component : tie.Need-sub-component
-sub-component c = fits-machine (Γ (start (c .before))) (search machine depth 20) tt
+sub-near-sum : tie.Need-sub-near-sum
+sub-near-sum c = fits-machine (Γ (start (c .before))) (search machine depth 20) tt
 
-component-requires-2 : tie.Need-component-requires-2
-component-requires-2 c κs = let b = start (c .before) in record { first = minus-s-small b; along = dx-small b; second = c-small b; aside = dy-small b }
+near-sum-requires-2 : tie.Need-near-sum-requires-2
+near-sum-requires-2 c κs = left-asks (start (c .before))
 
 returns : tie.Need-returns
 unfolding moveOf minus
 returns c =
     let b = start (c .before .before) in
-    let f = toZ-ofZ {w = w64} (record { sfits = c .before .component .ok }) ∙ c .before .component .ensures ∙ ap (λ (z : ℤ). near z ONE) (forward b) in
-    let l = toZ-ofZ {w = w64} (record { sfits = c .component2 .ok }) ∙ c .component2 .ensures ∙ ap (λ (z : ℤ). near z ONE) (left b) in
+    let f = toZ-ofZ {w = w64} (record { sfits = c .before .near-sum .ok }) ∙ c .before .near-sum .ensures ∙ ap (λ (z : ℤ). near z ONE) (forward b) in
+    let l = toZ-ofZ {w = w64} (record { sfits = c .near-sum2 .ok }) ∙ c .near-sum2 .ensures ∙ ap (λ (z : ℤ). near z ONE) (left b) in
     rw (f, l)
 
 pub move-by-spec : {M : Type 1} → statement M
 move-by-spec =
     tie.close
-    (tie.spec sub-dx sub-dy component-requires sub-component component-requires-2 returns)
+    (tie.spec sub-dx sub-dy near-sum-requires sub-near-sum near-sum-requires-2 returns)

@@ -11,9 +11,10 @@ use Rattle.model.specs.Stations.{used, positionAt, tangentAt}
 use Rattle.model.specs.Answers.{widestOffset, inverseAt}
 use Rattle.elements.specs.declared.Placement.{Placement}
 use Rattle.elements.specs.Reached.{placementOf}
-use Rattle.elements.proofs.Widths.{held, held-small}
-use Rattle.stations.proofs.StationExtent.{Bounded, station-bounded, near-aside-within}
-use Rattle.stations.proofs.StationHeld.{held-as, Computed, computed}
+use Rattle.elements.specs.Extent.{Placeable}
+use Rattle.elements.proofs.Widths.{held, held-small, held-as, natAbs-held}
+use Rattle.stations.proofs.StationExtent.{station-placeable, near-aside-within}
+use Rattle.stations.proofs.StationHeld.{Computed, computed}
 use Rattle.stations.proofs.inverse_at.Statement.{statement}
 use Rattle.stations.proofs.inverse_at.Tie as tie
 
@@ -25,14 +26,14 @@ module _ (c : tie.Start) where
   abbrev t : Point
   t = tangentAt (used (c .args .a)) (c .args .s)
 
-  bounds : Bounded (used (c .args .a)) (c .args .s)
-  bounds = station-bounded (used (c .args .a)) (c .args .s) (c .pre .0 .each) (c .pre .1 .0)
+  bounds : Placeable (placementOf p t)
+  bounds = station-placeable (used (c .args .a)) (c .args .s) (c .pre .0 .each) (c .pre .1 .0)
 
   -- an offset along a component: what is asked, and how large it is
   module _ {u v : ℤ} (e : u ≡ v) (h : natAbs v < 2 ^ 31) where
     asked : (natAbs (held (c .args .w)) ≤ widestOffset) × (natAbs (held u) < 2 ^ 31)
     asked = (
-      omega (arith, ap natAbs (held-small (c .args .w) (omega (arith, c .pre .1 .1))), c .pre .1 .1),
+      omega (arith, natAbs-held (c .args .w) (omega (arith, c .pre .1 .1)), c .pre .1 .1),
       omega (arith, ap natAbs (held-as e (omega arith)), h),
     )
 

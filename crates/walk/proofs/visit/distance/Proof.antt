@@ -1,14 +1,16 @@
--- `walk::visit::distance` meets its contract.
+-- `walk::visit::distance` meets its contract: a square for each coordinate, and their sum.
 use mathlib.Core.Path.{_≡_, _∙_, ap, ap₂}
-use Prim.Native.Nat.{ℕ, _+_, _*_, _^_, _≤_}
+use Prim.Native.Nat.{ℕ, _+_, _*_, _≤_}
 use native.Mathlib.Omega.{arith}
 use lib.IntN.{ℤ, natAbs, _-ℤ_}
 use borrow.Author.Needs.{needs}
 use Rattle.integers.specs.Plane.{squared}
 use Rattle.model.specs.declared.Point.{Point}
+use Rattle.model.specs.Acceptance.{frame}
 use Rattle.model.specs.Stations.{distanceSq}
+use Rattle.elements.specs.Extent.{widestPosition}
 use Rattle.elements.proofs.Extent.{extent}
-use Rattle.elements.proofs.Widths.{held, held-small}
+use Rattle.elements.proofs.Widths.{held, held-small, held-as, natAbs-held}
 use Rattle.walk.proofs.visit.distance.Statement.{statement}
 use Rattle.walk.proofs.visit.distance.Tie as tie
 
@@ -16,20 +18,16 @@ position-requires : tie.Need-position-requires
 position-requires c κs = search needs
 
 -- a coordinate of the point and one of the position, through the bits of their width
-held-within : (z : ℤ) (k : ℕ) → k ≤ 2 ^ 32 → natAbs z ≤ k → natAbs (held z) ≤ k
-held-within z k h l = omega (arith, ap natAbs (held-small z (omega arith)))
+gap-held : (a b : ℤ) → natAbs a ≤ frame → natAbs b ≤ widestPosition → (natAbs (held a) ≤ frame) × (natAbs (held b) ≤ widestPosition)
+gap-held a b h k = (omega (arith, natAbs-held a (omega arith)), omega (arith, natAbs-held b (omega arith)))
 
-gap-held : (a b : ℤ) → natAbs a ≤ 200000000 → natAbs b ≤ 262500000 → (natAbs (held a) ≤ 200000000) × (natAbs (held b) ≤ 262500000)
-gap-held a b h k = (held-within a 200000000 (omega arith) h, held-within b 262500000 (omega arith) k)
-
-gap-is : (a b b′ : ℤ) {r : ℕ} → natAbs a ≤ 200000000 → natAbs b′ ≤ 262500000 → b ≡ b′ → r ≡ natAbs (held a -ℤ held b) * natAbs (held a -ℤ held b) → r ≡ natAbs (a -ℤ b′) * natAbs (a -ℤ b′)
-gap-is a b b′ h k i e =
-    e ∙ ap (λ (z : ℤ). natAbs z * natAbs z) (ap₂ _-ℤ_ (held-small a (omega arith)) (held-small b (omega (arith, ap natAbs i)) ∙ i))
+gap-is : (a b b′ : ℤ) {r : ℕ} → natAbs a ≤ frame → natAbs b′ ≤ widestPosition → b ≡ b′ → r ≡ natAbs (held a -ℤ held b) * natAbs (held a -ℤ held b) → r ≡ natAbs (a -ℤ b′) * natAbs (a -ℤ b′)
+gap-is a b b′ h k i e = e ∙ ap (λ (z : ℤ). natAbs z * natAbs z) (ap₂ _-ℤ_ (held-small a (omega arith)) (held-as i (omega arith)))
 
 -- the position's coordinates
 record Placed (c : tie.After-position) : Type 0 where
-  x : natAbs (c .position .result .x) ≤ 262500000
-  y : natAbs (c .position .result .y) ≤ 262500000
+  x : natAbs (c .position .result .x) ≤ widestPosition
+  y : natAbs (c .position .result .y) ≤ widestPosition
 
 placed : (c : tie.After-position) → Placed c
 placed c =

@@ -11,13 +11,15 @@ use mir.Syntax.{w64}
 use mir.Val.{Fits}
 use Rattle.integers.proofs.Abs.{natAbs--, square-natAbs}
 use Rattle.integers.proofs.Machine.{Env, env, machine, fits-machine, by-machine}
+use Rattle.model.specs.Acceptance.{frame}
+use Rattle.elements.specs.Extent.{widestPosition}
 use Rattle.elements.proofs.Widths.{held}
 use Rattle.walk.proofs.visit.squared_gap.Statement.{statement}
 use Rattle.walk.proofs.visit.squared_gap.Tie as tie
 
 module _ (c : tie.Start) where
   abbrev Γ : Env
-  Γ = env (c .args .a ∷ c .args .b ∷ []) (200000000 ∷ 262500000 ∷ []) (c .pre .0, (c .pre .1, tt))
+  Γ = env (c .args .a ∷ c .args .b ∷ []) (frame ∷ widestPosition ∷ []) (c .pre .0, (c .pre .1, tt))
 
   abbrev gap : ℤ
   gap = c .args .a -ℤ c .args .b

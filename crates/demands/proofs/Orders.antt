@@ -24,9 +24,9 @@ use Rattle.model.specs.Acceptance.{checked, crestRules}
 use Rattle.model.specs.Answers.{placedIf, inverseIf, moveOf, moveIf}
 use Rattle.model.specs.Readings.{fromLocated, fromInverse}
 use Rattle.model.proofs.Verdict.{AllHold, none, done→all, all→done}
+use Rattle.model.proofs.RuleNumbers.{crest-up-to-9}
 use Rattle.crestfile.proofs.ForEach.{all-append, append-all}
-use Rattle.walk_laws.proofs.Reasons.{Lacks, empty, lacks-++, given-exactly}
-use Rattle.walk_laws.proofs.Crest.{crest-lacks}
+use Rattle.walk_laws.proofs.Reasons.{Lacks, empty, lacks-++, lacks-above, given-exactly}
 
 -- ---- tests
 
@@ -94,7 +94,7 @@ module _ (r : Rule) (after : List Rule) (l : Lacks (number (r .why)) after) wher
     pub given-after-crest : (before : List Rule) → Lacks (number (r .why)) before →
         (verdict (crestRules file ++ (before ++ (r ∷ after))) ≡ Refused (refusal (r .why) (r .place))) ↔ ((checked file ≡ Done) × AllHold before × (r .holds ≡ false))
     unfolding checked
-    given-after-crest before k = given-after (crestRules file) before (crest-lacks (number (r .why)) high file) k
+    given-after-crest before k = given-after (crestRules file) before (lacks-above high (crest-up-to-9 file)) k
 
     -- next after them
     pub next-after-crest : (verdict (crestRules file ++ (r ∷ after)) ≡ Refused (refusal (r .why) (r .place))) ↔ ((checked file ≡ Done) × (r .holds ≡ false))

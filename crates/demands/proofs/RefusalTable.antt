@@ -31,9 +31,9 @@ use Rattle.model.specs.Answers.{code, paperOfOutcome, readerOutcome, placed, lo
 use Rattle.model.specs.Readings.{answerTo}
 use Rattle.model.specs.Run.{shownOf, isFull, runAt, noted, readingCall, acknowledgeCall, stakeOutCall}
 use Rattle.model.proofs.Verdict.{reason-numbered, none, more, done→all, all→done}
+use Rattle.model.proofs.RuleNumbers.{records-up-to-9}
 use Rattle.crestfile.proofs.WriterRules.{rulesButRoom}
-use Rattle.walk_laws.proofs.Reasons.{first-holds, rest-hold, empty, other, lacks-++, given-exactly}
-use Rattle.walk_laws.proofs.Crest.{records-lacks}
+use Rattle.walk_laws.proofs.Reasons.{first-holds, rest-hold, empty, other, lacks-++, lacks-above, given-exactly}
 use Rattle.walk_laws.proofs.Outcomes.{file-outside-frame}
 use Rattle.readings.proofs.Refused.{answer-number}
 use Rattle.readings.proofs.Calls.{reading-18, reading-16, reading-counted, answer-not-the-runs, acknowledge-18, acknowledge-0}
@@ -128,7 +128,7 @@ module _ (records : List ℕ) (room : ℕ) where
   pub write-refused-17 : (writerOutcome records room ≡ Refused (refusal recordCount 0)) ↔ (countFits (length records) ≡ false)
   unfolding writerOutcome writerRules number
   write-refused-17 =
-      first-given (rule₀ recordCount (countFits (length records))) _ (lacks-++ (records-lacks 17 (omega arith) records) (other (omega arith) empty))
+      first-given (rule₀ recordCount (countFits (length records))) _ (lacks-++ (lacks-above (omega arith) (records-up-to-9 records)) (other (omega arith) empty))
 
   -- "room below the blocks needed", where 17 and 4 to 9 refuse nothing
   pub write-refused-18 : (writerOutcome records room ≡ Refused (refusal wrongRoom 0)) ↔ ((verdict (rulesButRoom records) ≡ Done) × (room < 512 * blocksNeeded records))
@@ -136,7 +136,7 @@ module _ (records : List ℕ) (room : ℕ) where
   write-refused-18 =
       let needed = 512 * blocksNeeded records in
       Iff·trans
-      (given-exactly (rule₀ wrongRoom (leb needed room)) [] empty (rulesButRoom records) (other (omega arith) (records-lacks 18 (omega arith) records)))
+      (given-exactly (rule₀ wrongRoom (leb needed room)) [] empty (rulesButRoom records) (other (omega arith) (lacks-above (omega arith) (records-up-to-9 records))))
       (Iff·and (all→done, done→all (rulesButRoom records)) (leb-false needed room, lt-leb needed room))
 
 -- ---- 18 and 16 of a run

@@ -1,6 +1,7 @@
 -- What is proved about the definitions.
 pub mod Rounding
 pub mod Verdict
+pub mod RuleNumbers
 pub mod Accepted
 pub mod Judged
 pub mod Answers

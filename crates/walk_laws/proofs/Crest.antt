@@ -2,43 +2,17 @@
 use mathlib.Core.List.{List}
 use mathlib.Core.Logic.{_↔_}
 use mathlib.Core.Path.{_≡_, refl, sym, _∙_}
-use Prim.Native.Nat.{ℕ, _-_, _<_}
-use native.Mathlib.Omega.{arith}
+use Prim.Native.Nat.{ℕ, _<_}
 use Rattle.model.specs.declared.Point.{Point}
 use Rattle.model.specs.declared.Refusal.{Refusal}
 use Rattle.model.specs.declared.Outcome.{Outcome}
 use Rattle.model.specs.declared.Outcome.the-variants.{Done, Refused}
 use Rattle.model.specs.declared.Located.{Located}
 use Rattle.model.specs.declared.Located.the-variants.{Refused as LocatedRefused}
-use Rattle.model.specs.Refusals.{number}
-use Rattle.model.specs.Records.{recordBytes, countOf, blockCount}
-use Rattle.model.specs.Acceptance.{recordRules, joinRules, recordsRules, sumRules, fieldRules, blocksRules, crestRules, checked, crestElements}
+use Rattle.model.specs.Acceptance.{crestRules, checked, crestElements}
 use Rattle.model.specs.Answers.{locatedOn, located}
+use Rattle.model.proofs.RuleNumbers.{not-above, crest-up-to-9}
 use Rattle.model.proofs.Answers.{located-before, located-accepted}
-use Rattle.walk_laws.proofs.Reasons.{Lacks, empty, other, lacks-++, lacks-forEach, lacks→not-given}
-
--- ---- the crest's own refusals come first
-
-pub records-lacks : (n : ℕ) → 9 < n → (bytes : List ℕ) → Lacks n (recordsRules bytes)
-unfolding recordsRules recordRules joinRules number
-records-lacks n h bytes =
-    lacks-++
-    (lacks-forEach (λ r. other (omega arith) (other (omega arith) (other (omega arith) (other (omega arith) (other (omega arith) empty))))) (countOf bytes) 0)
-    (lacks-forEach (λ r. other (omega arith) (other (omega arith) empty)) (countOf bytes - 1) 0)
-
-pub crest-lacks : (n : ℕ) → 9 < n → (file : List ℕ) → Lacks n (crestRules file)
-unfolding crestRules blocksRules sumRules fieldRules number
-crest-lacks n h file =
-    lacks-++
-    (other (omega arith)
-    (lacks-++
-    (lacks-forEach (λ b. other (omega arith) empty) (blockCount file) 0)
-    (lacks-forEach (λ b. other (omega arith) empty) (blockCount file) 0)))
-    (records-lacks n h (recordBytes file))
-
-crest-up-to-9 : (file : List ℕ) (w : Refusal) → checked file ≡ Refused w → 9 < w .number → ⊥
-unfolding checked
-crest-up-to-9 file w e h = lacks→not-given (crest-lacks (w .number) h file) e
 
 pub located-refused-crest : (file : List ℕ) (p : Point) (w : Refusal) → checked file ≡ Refused w → located file p ≡ LocatedRefused w
 unfolding located checked
@@ -46,8 +20,9 @@ located-refused-crest file p w e = located-before (crestRules file) (crestElemen
 
 -- an answer, and a refusal above 9, is given exactly when the file is accepted and its elements give it
 pub located-exactly : (file : List ℕ) (p : Point) (l : Located) → ((w : Refusal) → l ≡ LocatedRefused w → 9 < w .number) → (located file p ≡ l) ↔ ((checked file ≡ Done) × (locatedOn (crestElements file) p ≡ l))
+unfolding checked
 located-exactly file p l above = ((λ e. go e (checked file) refl), (λ x. located-accepted file p (x .0) ∙ x .1))
   where
     go : located file p ≡ l → (o : Outcome) → checked file ≡ o → (checked file ≡ Done) × (locatedOn (crestElements file) p ≡ l)
     go e Done c = (c, sym (located-accepted file p c) ∙ e)
-    go e (Refused w) c = absurd (crest-up-to-9 file w c (above w (sym e ∙ located-refused-crest file p w c)))
+    go e (Refused w) c = absurd (not-above w (crest-up-to-9 file) c (above w (sym e ∙ located-refused-crest file p w c)))

@@ -3,20 +3,21 @@ use mathlib.Core.Bool.{Bool, true, false}
 use mathlib.Core.List.{List, [], _∷_, _++_}
 use mathlib.Core.Logic.{_↔_, _≢_}
 use mathlib.Core.Path.{_≡_, refl}
-use Prim.Native.Nat.{ℕ, zero, suc, _+_}
+use Prim.Native.Nat.{ℕ, _<_}
 use native.Mathlib.Omega.{arith}
 use Rattle.model.specs.declared.Refusal.{Refusal}
 use Rattle.model.specs.declared.Outcome.the-variants.{Refused}
-use Rattle.model.specs.Refusals.{Rule, number, refusal, orRefused, verdict, forEach}
-use Rattle.model.proofs.Verdict.{AllHold, none, more, first→refused}
+use Rattle.model.specs.Refusals.{Rule, number, refusal, orRefused, verdict}
+use Rattle.model.proofs.Verdict.{AllHold, none as all-none, more as all-more, first→refused}
+use Rattle.model.proofs.RuleNumbers.{UpTo, none, more}
 
 -- ---- rules that hold
 
 pub first-holds : {r : Rule} {rs : List Rule} → AllHold (r ∷ rs) → r .holds ≡ true
-first-holds (more h a) = h
+first-holds (all-more h a) = h
 
 pub rest-hold : {r : Rule} {rs : List Rule} → AllHold (r ∷ rs) → AllHold rs
-rest-hold (more h a) = a
+rest-hold (all-more h a) = a
 
 -- ---- the number that is given
 
@@ -29,10 +30,10 @@ pub lacks-++ : {n : ℕ} {rs ss : List Rule} → Lacks n rs → Lacks n ss → L
 lacks-++ empty l = l
 lacks-++ (other h k) l = other h (lacks-++ k l)
 
-pub lacks-forEach : {n : ℕ} {f : ℕ → List Rule} → ((i : ℕ) → Lacks n (f i)) → (k i : ℕ) → Lacks n (forEach f k i)
-unfolding forEach
-lacks-forEach h zero i = empty
-lacks-forEach h (suc k) i = lacks-++ (h i) (lacks-forEach h k (i + 1))
+-- rules that give no number above m lack every number above it
+pub lacks-above : {m n : ℕ} {rs : List Rule} → m < n → UpTo m rs → Lacks n rs
+lacks-above h none = empty
+lacks-above h (more {r} k a) = other {r = r} (omega arith) (lacks-above h a)
 
 -- a refusal of an order that begins with r comes from r, or from the rules after it
 data Source (r : Rule) (rs : List Rule) (w : Refusal) : Type 0 where
@@ -62,13 +63,13 @@ module _ (r : Rule) (after : List Rule) (l : Lacks (number (r .why)) after) wher
   first-failing [] empty e = go (source r after (refusal (r .why) (r .place)) e)
     where
       go : Source r after (refusal (r .why) (r .place)) → AllHold [] × (r .holds ≡ false)
-      go (from-first f n) = (none, f)
+      go (from-first f n) = (all-none, f)
       go (from-rest f d) = absurd (lacks→not-given l d)
   first-failing (b ∷ bs) (other h k) e = go (first-failing bs k) (source b (bs ++ (r ∷ after)) (refusal (r .why) (r .place)) e)
     where
       go : (verdict (bs ++ (r ∷ after)) ≡ Refused (refusal (r .why) (r .place)) → AllHold bs × (r .holds ≡ false)) → Source b (bs ++ (r ∷ after)) (refusal (r .why) (r .place)) → AllHold (b ∷ bs) × (r .holds ≡ false)
       go rest (from-first f n) = absurd (h n)
-      go rest (from-rest f d) = let x = rest d in (more f (x .0), x .1)
+      go rest (from-rest f d) = let x = rest d in (all-more f (x .0), x .1)
 
   pub given-exactly : (before : List Rule) → Lacks (number (r .why)) before → (verdict (before ++ (r ∷ after)) ≡ Refused (refusal (r .why) (r .place))) ↔ (AllHold before × (r .holds ≡ false))
   given-exactly before k = (first-failing before k, (λ x. first→refused (record { before = before; after = after; split = refl; hold = x .0; fails = x .1 })))

@@ -1,2 +1,2 @@
--- What the proofs of several functions use.
+-- The turns of the loop over the readings.
 mod Turns

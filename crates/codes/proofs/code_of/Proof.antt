@@ -1,4 +1,4 @@
--- `codes::code_of` meets its contract.
+-- `codes::code_of` meets its contract: a number up to 18 and a place up to 60 keep the sum far within 32 bits.
 use borrow.Author.Needs.{needs}
 use Rattle.model.specs.Answers.{code}
 use Rattle.codes.proofs.code_of.Statement.{statement}

@@ -1,4 +1,4 @@
--- `printing::text::put_decimal` meets its contract.
+-- `printing::text::put_decimal` meets its contract: the fewest digits that hold the number are its decimal digits, at most 20 of them.
 use borrow.Author.Needs.{needs}
 use Prim.Native.Nat.{_+_, _≤_}
 use mathlib.Core.Path.{ap, _∙_}

@@ -1,4 +1,4 @@
--- `printing::text::put_word` meets its contract.
+-- `printing::text::put_word` meets its contract: what is copied into the room from `at` on is the word, and the rest stays.
 use borrow.Author.Needs.{needs}
 use native.Mathlib.Omega.{arith}
 use mathlib.Core.Path.{ap, ap₂}

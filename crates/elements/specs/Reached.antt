@@ -4,30 +4,46 @@ use mathlib.Core.Path.{_≡_}
 use lib.IntN.{ℤ, pos, natAbs}
 use Rattle.model.specs.Acceptance.{longestElement, frame}
 use Rattle.model.specs.Rounding.{ONE}
+use Rattle.model.specs.Series as model
 use Rattle.model.specs.Series.{Series, seriesAlong, seriesAside, cosine, sine, angleAt, localAt, turned, movedBy}
 use Rattle.model.specs.declared.Element.{Element}
 use Rattle.model.specs.declared.Point.{Point}
 use Rattle.elements.specs.declared.Placement.{Placement}
 use Rattle.elements.specs.declared.series.Reach.{Reach}
+use Rattle.elements.specs.declared.series.Factor.{Factor}
+use Rattle.elements.specs.declared.series.Numbers.{Numbers}
 use Rattle.elements.specs.declared.series.Turn.{Turn}
 use Rattle.elements.specs.Signs.{withSign, signOf}
 use Rattle.model.specs.declared.Kind.{Kind}
 use Rattle.elements.specs.declared.Prepared.{Prepared}
 use Rattle.elements.specs.Prepared.{backward, Ready}
 
+-- the numbers of a factor, and of a series, as the code holds them
+abbrev pub factorOf : Factor → model.Factor
+factorOf f = model.factor (f .a) (f .b) (f .d)
+
+abbrev pub seriesOf : Numbers → Series
+seriesOf k = record { alongFactor = factorOf (k .along); asideFactor = factorOf (k .aside); asideDivisor = k .divisor }
+
 -- what F(a; b, d) asks of the square and of its numbers
-pub record Factorable (square a b d : ℕ) : Type 0 where
+pub record Factorable (square : ℕ) (f : Factor) : Type 0 where
   pub small : square ≤ ONE
-  pub outer : (1 ≤ a) × (a ≤ 14)
-  pub ratio : b ≤ d
-  pub inner : (1 < d) × (d ≤ 220)
-  pub even : d % 2 ≡ 0
+  pub outer : (1 ≤ f .a) × (f .a ≤ 14)
+  pub ratio : f .b ≤ f .d
+  pub inner : (1 < f .d) × (f .d ≤ 220)
+  pub even : f .d % 2 ≡ 0
 
 -- what the series ask of a length in mm, an angle and a sign
 pub record Curved (length angle negative : ℕ) : Type 0 where
   pub longest : length ≤ longestElement
   pub widest : angle ≤ 2 ^ 29
   pub sign : negative ≤ 1
+
+-- numbers that serve for every square that an angle has, up to 2^28, and for v
+pub record Usable (k : Numbers) : Type 0 where
+  pub along : Factorable (2 ^ 28) (k .along)
+  pub aside : Factorable (2 ^ 28) (k .aside)
+  pub divisor : (1 ≤ k .divisor) × (k .divisor ≤ 3)
 
 -- r is u and v of a series at a length in mm and an angle
 pub record SeriesAt (k : Series) (length angle negative : ℕ) (r : Reach) : Type 0 where

@@ -4,11 +4,49 @@ ghost use mathlib.Core.Path.{_≡_};
 ghost use Prim.Native.Nat.{_+_, _*_, _/_, _^_, _<_, _≤_};
 ghost use lib.IntN.{pos, _*ℤ_};
 ghost use Rattle.model.specs.Rounding.{ONE, near};
-ghost use Rattle.model.specs.Series.{factor, F, squareOf, arcSeries, spiralSeries};
+ghost use Rattle.model.specs.Series.{F, squareOf, arcSeries, spiralSeries};
 ghost use Rattle.elements.specs.Signs.{withSign};
-ghost use Rattle.elements.specs.Reached.{Factorable, Curved, SeriesAt, TurnAt};
+ghost use Rattle.elements.specs.Reached.{factorOf, seriesOf, Factorable, Curved, Usable, SeriesAt, TurnAt};
 
 const ONE: u64 = 0x4000_0000;
+
+// The numbers of F(a; b, d).
+pub struct Factor {
+    pub a: u64,
+    pub b: u64,
+    pub d: u64,
+}
+
+// The factors of u and of v, and the divisor of v.
+pub struct Numbers {
+    pub along: Factor,
+    pub aside: Factor,
+    pub divisor: u64,
+}
+
+const ARC: Numbers = Numbers {
+    along: Factor { a: 6, b: 1, d: 20 },
+    aside: Factor { a: 12, b: 1, d: 30 },
+    divisor: 2,
+};
+
+const SPIRAL: Numbers = Numbers {
+    along: Factor {
+        a: 10,
+        b: 5,
+        d: 108,
+    },
+    aside: Factor {
+        a: 14,
+        b: 7,
+        d: 220,
+    },
+    divisor: 3,
+};
+
+const COSINE: Factor = Factor { a: 2, b: 1, d: 12 };
+
+const SINE: Factor = Factor { a: 6, b: 1, d: 20 };
 
 // The magnitudes of the angle t, of u and of v.
 pub struct Reach {
@@ -33,13 +71,13 @@ pub fn square_of(angle: u64) -> u64
 }
 
 // F(a; b, d).
-pub fn factor_of(square: u64, a: u64, b: u64, d: u64) -> u64
-    requires { ⌜ Factorable square a b d ⌝ }
-    ensures { λ r. ⌜ pos r ≡ F (factor a b d) (pos square) ⌝ }
+pub fn factor_of(square: u64, f: Factor) -> u64
+    requires { ⌜ Factorable square f ⌝ }
+    ensures { λ r. ⌜ pos r ≡ F (factorOf f) (pos square) ⌝ }
     ensures small { λ r. ⌜ r ≤ ONE ⌝ }
 {
-    let inner = ONE - near_even(b * square, d, 0);
-    ONE - near_even(square * inner, a * ONE, 0)
+    let inner = ONE - near_even(f.b * square, f.d, 0);
+    ONE - near_even(square * inner, f.a * ONE, 0)
 }
 
 // u, of a length in mm and the factor of u.
@@ -60,17 +98,28 @@ pub fn aside(length: u64, angle: u64, negative: u64, f: u64, divisor: u64) -> u6
     near_even(w * f, divisor * ONE, negative)
 }
 
+// u and v of a curve by the numbers of its series.
+fn curve(k: Numbers, length: u64, angle: u64, negative: u64) -> Reach
+    requires { ⌜ Usable k ⌝ }
+    requires { ⌜ Curved length angle negative ⌝ }
+    ensures { λ r. ⌜ SeriesAt (seriesOf k) length angle negative r ⌝ }
+{
+    let square = square_of(angle);
+    let f = k.along;
+    let g = k.aside;
+    Reach {
+        angle,
+        along: along(length, factor_of(square, f)),
+        aside: aside(length, angle, negative, factor_of(square, g), k.divisor),
+    }
+}
+
 // u and v of an arc.
 pub fn arc(length: u64, angle: u64, negative: u64) -> Reach
     requires { ⌜ Curved length angle negative ⌝ }
     ensures { λ r. ⌜ SeriesAt arcSeries length angle negative r ⌝ }
 {
-    let square = square_of(angle);
-    Reach {
-        angle,
-        along: along(length, factor_of(square, 6, 1, 20)),
-        aside: aside(length, angle, negative, factor_of(square, 12, 1, 30), 2),
-    }
+    curve(ARC, length, angle, negative)
 }
 
 // U and V of a spiral.
@@ -78,12 +127,7 @@ pub fn spiral(length: u64, angle: u64, negative: u64) -> Reach
     requires { ⌜ Curved length angle negative ⌝ }
     ensures { λ r. ⌜ SeriesAt spiralSeries length angle negative r ⌝ }
 {
-    let square = square_of(angle);
-    Reach {
-        angle,
-        along: along(length, factor_of(square, 10, 5, 108)),
-        aside: aside(length, angle, negative, factor_of(square, 14, 7, 220), 3),
-    }
+    curve(SPIRAL, length, angle, negative)
 }
 
 // The direction, before a sign of the kind.
@@ -93,8 +137,8 @@ pub fn direction(angle: u64, negative: u64) -> Turn
 {
     let square = square_of(angle);
     Turn {
-        cosine: factor_of(square, 2, 1, 12),
-        sine: near_even(angle * factor_of(square, 6, 1, 20), ONE, negative),
+        cosine: factor_of(square, COSINE),
+        sine: near_even(angle * factor_of(square, SINE), ONE, negative),
     }
 }
 

@@ -4,36 +4,36 @@ use native.Mathlib.Omega.{arith}
 use native.Mathlib.Nat.{mul-le-mul}
 use borrow.Author.Needs.{needs}
 use Rattle.model.specs.Rounding.{ONE}
-use Rattle.model.specs.Series.{factor}
 use Rattle.elements.specs.Signs.{withSign}
+use Rattle.elements.specs.Reached.{factorOf}
 use Rattle.elements.proofs.Extent.{near-at-most}
 use Rattle.elements.proofs.Steps.{factor-step}
 use Rattle.elements.proofs.series.factor_of.Statement.{statement}
 use Rattle.elements.proofs.series.factor_of.Tie as tie
 
-inner-product : (c : tie.Start) → c .args .b * c .args .square ≤ c .args .d * ONE
+inner-product : (c : tie.Start) → c .args .f .b * c .args .square ≤ c .args .f .d * ONE
 inner-product c = mul-le-mul (c .pre .ratio) (c .pre .small)
 
 module _ (c : tie.After-near-even) where
   quotient-small : c .near-even .result ≤ ONE
   quotient-small =
-      let s = c .before in
-      near-at-most 0 (s .args .b * s .args .square) (s .args .d) (c .near-even .result) ONE (omega arith) (c .near-even .ensures) (inner-product s)
+      let s = c .before .before in
+      near-at-most 0 (s .args .f .b * s .args .square) (s .args .f .d) (c .near-even .result) ONE (omega arith) (c .near-even .ensures) (inner-product s)
 
-  outer-product : c .before .args .square * (ONE - c .near-even .result) ≤ ONE * ONE
-  outer-product = mul-le-mul {n₁ = c .before .args .square} {m₁ = ONE - c .near-even .result} {n₂ = ONE} {m₂ = ONE} (c .before .pre .small) (omega arith)
+  outer-product : c .before .before .args .square * (ONE - c .near-even .result) ≤ ONE * ONE
+  outer-product = mul-le-mul {n₁ = c .before .before .args .square} {m₁ = ONE - c .near-even .result} {n₂ = ONE} {m₂ = ONE} (c .before .before .pre .small) (omega arith)
 
 outer-small : (c : tie.After-near-even2) → c .near-even2 .result ≤ ONE
 outer-small c =
-    let s = c .before .before in
-    near-at-most 0 (s .args .square * (ONE - c .before .near-even .result)) (s .args .a * ONE) (c .near-even2 .result) ONE (omega arith) (c .near-even2 .ensures)
-    (omega (arith, outer-product (c .before)))
+    let s = c .before .before .before .before in
+    near-at-most 0 (s .args .square * (ONE - c .before .before .near-even .result)) (s .args .f .a * ONE) (c .near-even2 .result) ONE (omega arith) (c .near-even2 .ensures)
+    (omega (arith, outer-product (c .before .before)))
 
 mul-near-even : tie.Need-mul-near-even
-mul-near-even c = omega (arith, inner-product c)
+mul-near-even c = omega (arith, inner-product (c .before))
 
 near-even-requires : tie.Need-near-even-requires
-near-even-requires c κs = omega (arith, inner-product c)
+near-even-requires c κs = omega (arith, inner-product (c .before))
 
 sub-inner : tie.Need-sub-inner
 sub-inner c = quotient-small c
@@ -45,7 +45,7 @@ mul-near-even-3 : tie.Need-mul-near-even-3
 mul-near-even-3 c = search needs
 
 near-even-requires-2 : tie.Need-near-even-requires-2
-near-even-requires-2 c κs = omega (arith, outer-product c)
+near-even-requires-2 c κs = omega (arith, outer-product (c .before))
 
 sub-result : tie.Need-sub-result
 sub-result c = outer-small c
@@ -53,9 +53,9 @@ sub-result c = outer-small c
 returns : tie.Need-returns
 unfolding withSign
 returns c =
-    let s = c .before .before in (
-      factor-step (factor (s .args .a) (s .args .b) (s .args .d)) (s .args .square) (c .before .near-even .result) (c .near-even2 .result)
-          (quotient-small (c .before)) (outer-small c) (c .before .near-even .ensures) (c .near-even2 .ensures),
+    let s = c .before .before .before .before in (
+      factor-step (factorOf (s .args .f)) (s .args .square) (c .before .before .near-even .result) (c .near-even2 .result)
+          (quotient-small (c .before .before)) (outer-small c) (c .before .before .near-even .ensures) (c .near-even2 .ensures),
       omega arith,
     )
 

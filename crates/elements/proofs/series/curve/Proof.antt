@@ -1,23 +1,22 @@
--- `elements::series::spiral` meets its contract.
+-- `elements::series::curve` meets its contract: u and v are made of the square and the factors as the definitions make them.
 use mathlib.Core.Path.{refl}
-use native.Mathlib.Omega.{arith}
 use borrow.Author.Needs.{needs}
-use Rattle.model.specs.Series.{spiralSeries}
+use Rattle.elements.specs.Reached.{seriesOf}
 use Rattle.elements.proofs.Steps.{series-at}
-use Rattle.elements.proofs.series.spiral.Statement.{statement}
-use Rattle.elements.proofs.series.spiral.Tie as tie
+use Rattle.elements.proofs.series.curve.Statement.{statement}
+use Rattle.elements.proofs.series.curve.Tie as tie
 
 square-of-requires : tie.Need-square-of-requires
 square-of-requires c κs = search needs
 
 factor-of-requires : tie.Need-factor-of-requires
-factor-of-requires c κs = omega arith
+factor-of-requires c κs = search needs
 
 along-requires : tie.Need-along-requires
 along-requires c κs = search needs
 
 factor-of-requires-2 : tie.Need-factor-of-requires-2
-factor-of-requires-2 c κs = omega arith
+factor-of-requires-2 c κs = search needs
 
 aside-requires : tie.Need-aside-requires
 aside-requires c κs = search needs
@@ -26,14 +25,14 @@ returns : tie.Need-returns
 returns c =
     let second = c .before in
     let first = second .before .before in
-    let square = first .before in
+    let square = first .before .before .before in
     let x = square .before .args in
-    series-at (x .negative) (x .angle) (square .square-of .result) (square .square-of .ensures .0) spiralSeries (x .length)
+    series-at (x .negative) (x .angle) (square .square-of .result) (square .square-of .ensures .0) (seriesOf (x .k)) (x .length)
     (first .factor-of .result) (second .factor-of2 .result) _ (first .factor-of .ensures .0) (second .factor-of2 .ensures .0)
     refl (second .before .along .ensures) (c .aside .ensures)
 
-pub spiral-spec : {M : Type 1} → statement M
-spiral-spec =
+pub curve-spec : {M : Type 1} → statement M
+curve-spec =
     tie.close
     (tie.spec
     square-of-requires

@@ -13,7 +13,6 @@ use Rattle.model.specs.Accepted.{Accepted, AllAccepted, AlignmentAccepted}
 use Rattle.model.specs.Stations.{noElement, used, total}
 use Rattle.model.specs.Walk.{ownStations, bounds}
 use Rattle.model.proofs.Accepted.{numbers}
-pub use Rattle.elements.proofs.Preparing.{prepared-element}
 use Rattle.stations.proofs.StationTotal as Total
 use Rattle.walk_laws.proofs.Own.{bounds-length, bound-at, bound-next}
 use Rattle.walk.specs.Search.{boundsIn}

@@ -20,8 +20,7 @@ use Rattle.walk.specs.declared.Pass.the-variants.{First, Second}
 use Rattle.walk.specs.declared.Seen.{Seen}
 use Rattle.walk.specs.Search.{seenAt, seenOver, onElement, above, endVisit, firstOn, passVisits, passOn, passOver}
 use Rattle.walk.proofs.Arrays.{first-accepted}
-pub use Rattle.walk_laws.proofs.Own.{own-between}
-use Rattle.walk_laws.proofs.Own.{D-own, total-at}
+use Rattle.walk_laws.proofs.Own.{own-between, D-own, total-at}
 use Rattle.walk_laws.proofs.Visits.{Rising, none, next, rising-from, rising-length, multiples-rise, bestOf-≤}
 use Rattle.walk.proofs.Seeing.{seenOver-++, seenOver-best, seenOver-visits}
 

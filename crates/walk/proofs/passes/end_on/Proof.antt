@@ -1,4 +1,4 @@
--- `walk::passes::end_on` meets its contract.
+-- `walk::passes::end_on` meets its contract, by whether T is an own station of the element and no multiple of 1000.
 use mathlib.Core.Path.{_∙_}
 use borrow.Author.Needs.{needs}
 use Rattle.walk.proofs.Seeing.{end-not-own, end-multiple, end-visited, onElement-at}

@@ -12,9 +12,10 @@ use Rattle.model.specs.Walk.{ownStations}
 use Rattle.walk.specs.Search.{onElement, passOn}
 use Rattle.joins.proofs.JoinElements.{length-mapped}
 use Rattle.stations.proofs.StationTotal.{total-within}
-use Rattle.walk.proofs.Arrays.{accepted-length, used-length, used-at, prepared-element, bounds-in}
-use Rattle.walk_laws.proofs.Own.{total-at}
-use Rattle.walk.proofs.Passing.{Left, left-start, left-accepted, left-step, left-done, own-between}
+use Rattle.walk.proofs.Arrays.{accepted-length, used-length, used-at, bounds-in}
+use Rattle.elements.proofs.Preparing.{prepared-element}
+use Rattle.walk_laws.proofs.Own.{own-between, total-at}
+use Rattle.walk.proofs.Passing.{Left, left-start, left-accepted, left-step, left-done}
 use Rattle.walk.proofs.passes.pass_over.Statement.{statement}
 use Rattle.walk.proofs.passes.pass_over.Tie as tie
 

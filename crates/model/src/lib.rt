@@ -1,6 +1,12 @@
-// The types of the crest library, and what a kind byte says. Every definition of document 01 over them is in specs/.
+// The types of the crest library, what a kind byte says, and document 01's numbers under their names: layout, limits, refusals. Every
+// definition of document 01 over them is in specs/.
+use crate::layout::MOST_RECORDS;
 ghost use mathlib.Core.Path.{_≡_};
 ghost use Rattle.model.specs.Kinds.{decide};
+
+pub mod layout;
+pub mod limits;
+pub mod refusals;
 
 // The four kinds of element that are known.
 pub enum Kind {
@@ -45,7 +51,7 @@ pub struct Element {
 
 // The elements of an accepted crest: the first `count` of the array.
 pub struct Alignment {
-    pub elements: [Element; 60],
+    pub elements: [Element; MOST_RECORDS],
     pub count: usize,
 }
 

@@ -10,6 +10,8 @@ use model::Element;
 use model::Kind;
 use model::Outcome;
 use model::Refusal;
+use model::layout::MOST_RECORDS;
+use model::layout::RECORD_SIZE;
 ghost use mathlib.Core.Bool.{true, false};
 ghost use mathlib.Core.List.{[]};
 ghost use mathlib.Core.Path.{_≡_};
@@ -32,7 +34,11 @@ pub fn start_in(blocks: bool, r: usize) -> usize
     requires { ⌜ r < 60 ⌝ }
     ensures { λ n. ⌜ n ≡ startIn blocks r ⌝ }
 {
-    if blocks { record_start(r) } else { 32 * r }
+    if blocks {
+        record_start(r)
+    } else {
+        RECORD_SIZE * r
+    }
 }
 
 // No elements.
@@ -49,7 +55,7 @@ fn empty() -> Alignment
         radius: 0,
     };
     Alignment {
-        elements: [none; 60],
+        elements: [none; MOST_RECORDS],
         count: 0,
     }
 }
@@ -62,7 +68,7 @@ fn gather(bytes: &[u8], blocks: bool, n: usize) -> Alignment
     let mut els = empty().elements;
     let mut r = 0;
     while r < n {
-        els[r] = records::element(part_at(bytes, start_in(blocks, r), 32));
+        els[r] = records::element(part_at(bytes, start_in(blocks, r), RECORD_SIZE));
         r += 1;
     }
     Alignment {
@@ -76,7 +82,7 @@ pub fn of_records(records: &[u8]) -> Alignment
     requires { ⌜ countFits (length (now records)) ≡ true ⌝ }
     ensures { λ a. ⌜ a ≡ alignmentOf (elementsOf (now (records .entry))) ⌝ }
 {
-    gather(records, false, records.len() / 32)
+    gather(records, false, records.len() / RECORD_SIZE)
 }
 
 // The alignment of a file whose blocks refuse nothing.

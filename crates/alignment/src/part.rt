@@ -4,6 +4,8 @@ use crate::accept::start_in;
 use blocks::part_at;
 use crestfile::check::record_count;
 use model::Outcome;
+use model::layout::RECORD_SIZE;
+use model::refusals;
 use records::refused;
 ghost use mathlib.Core.Path.{_≡_};
 ghost use Rattle.model.specs.Answers.{readerOutcome, readerSpan, readerPart};
@@ -20,7 +22,7 @@ pub fn record_outcome(file: &[u8], r: usize) -> Outcome
     if r < record_count(file) {
         return Outcome::Done;
     }
-    refused(15, 0)
+    refused(refusals::ASKED_OUT_OF_RANGE, 0)
 }
 
 // Record r of the file, where it lies; an empty part where the reader refuses.
@@ -30,6 +32,6 @@ pub fn record_part(file: &[u8], r: usize) -> &[u8]
 {
     match record_outcome(file, r) {
         Outcome::Refused(_) => part_at(file, 0, 0),
-        Outcome::Done => part_at(file, start_in(true, r), 32),
+        Outcome::Done => part_at(file, start_in(true, r), RECORD_SIZE),
     }
 }

@@ -1,4 +1,5 @@
 // One block of a crest file: its sums and its fields, a part of lent bytes, and the block written into lent room.
+use model::layout;
 use records::all_zero;
 ghost use mathlib.Core.List.{_++_};
 ghost use mathlib.Core.Path.{_≡_};
@@ -40,15 +41,15 @@ fn sums_of(block: &[u8]) -> Sums
     let mut a: usize = 0;
     let mut b: usize = 0;
     let mut i = 0;
-    while i < 508 {
+    while i < layout::SUMS_AT {
         let x = wide(block[i]);
         a += x;
-        b += (508 - i) * x;
+        b += (layout::SUMS_AT - i) * x;
         i += 1;
     }
     Sums {
-        a: (a % 65536) as u16,
-        b: (b % 65536) as u16,
+        a: (a % layout::SUM_MODULUS) as u16,
+        b: (b % layout::SUM_MODULUS) as u16,
     }
 }
 
@@ -58,10 +59,10 @@ pub fn sums_agree(block: &[u8]) -> bool
     ensures { λ r. ⌜ r ≡ sumsAgree (now (block .entry)) ⌝ }
 {
     let s = sums_of(block);
-    if fields::u16_at(block, 508) != s.a {
+    if fields::u16_at(block, layout::SUMS_AT) != s.a {
         return false;
     }
-    fields::u16_at(block, 510) == s.b
+    fields::u16_at(block, layout::SUM_B_AT) == s.b
 }
 
 // Whether block b of n may use so many records: 15 in every block but the last, 1 to 15 in that.
@@ -70,9 +71,9 @@ fn use_fits(n: usize, b: usize, used: usize) -> bool
     ensures { λ r. ⌜ r ≡ useFits n b used ⌝ }
 {
     if b + 1 == n {
-        return 1 <= used && used <= 15;
+        return 1 <= used && used <= layout::PER_BLOCK;
     }
-    used == 15
+    used == layout::PER_BLOCK
 }
 
 // Whether block b of n has the fields that it must have, and zeros where nothing is in use.
@@ -81,21 +82,21 @@ pub fn fields_fit(n: usize, b: usize, block: &[u8]) -> bool
     requires { ⌜ b < n ⌝ }
     ensures { λ r. ⌜ r ≡ fieldsFit n b (now (block .entry)) ⌝ }
 {
-    let number = fields::u16_at(block, 480) as usize;
+    let number = fields::u16_at(block, layout::BLOCK_NUMBER_AT) as usize;
     if number != b {
         return false;
     }
-    let used = fields::u16_at(block, 482) as usize;
+    let used = fields::u16_at(block, layout::USED_AT) as usize;
     if !use_fits(n, b, used) {
         return false;
     }
-    if fields::u32_at(block, 484) != 1 {
+    if fields::u32_at(block, layout::EDITION_AT) != layout::EDITION {
         return false;
     }
-    if !all_zero(&block[488..508]) {
+    if !all_zero(&block[layout::ZEROS_AT..layout::SUMS_AT]) {
         return false;
     }
-    all_zero(&block[32 * used..480])
+    all_zero(&block[layout::RECORD_SIZE * used..layout::RECORDS_END])
 }
 
 // Bytes copied over the room's from `at` on.
@@ -131,11 +132,11 @@ fn write_body(room: &mut [u8], b: usize, records: &[u8])
 {
     let n = records.len();
     copy_at(room, 0, records);
-    clear_at(room, n, 480 - n);
-    fields::put_u16(room, 480, b as u16);
-    fields::put_u16(room, 482, (n / 32) as u16);
-    fields::put_u32(room, 484, 1);
-    clear_at(room, 488, 20);
+    clear_at(room, n, layout::RECORDS_END - n);
+    fields::put_u16(room, layout::BLOCK_NUMBER_AT, b as u16);
+    fields::put_u16(room, layout::USED_AT, (n / layout::RECORD_SIZE) as u16);
+    fields::put_u32(room, layout::EDITION_AT, layout::EDITION);
+    clear_at(room, layout::ZEROS_AT, layout::ZERO_COUNT);
 }
 
 // The two sums of bytes 0 to 507, after them.
@@ -144,8 +145,8 @@ fn write_sums(room: &mut [u8])
     ensures { λ _. ⌜ now (room .exit) ≡ put (now (room .entry)) 508 (u16Bytes (sumA (now (room .entry))) ++ u16Bytes (sumB (now (room .entry)))) ⌝ }
 {
     let s = sums_of(room);
-    fields::put_u16(room, 508, s.a);
-    fields::put_u16(room, 510, s.b);
+    fields::put_u16(room, layout::SUMS_AT, s.a);
+    fields::put_u16(room, layout::SUM_B_AT, s.b);
 }
 
 // Block b of these records, 15 at most.

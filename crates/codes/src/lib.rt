@@ -4,6 +4,7 @@ use model::Outcome;
 use model::Point;
 use model::ReadingAnswer;
 use model::Refusal;
+use model::refusals;
 use readings::run::count;
 use readings::run::latest_of;
 use run_bytes::put_run;
@@ -26,7 +27,7 @@ pub fn code_of(why: Refusal) -> u32
     requires { ⌜ Small (refusedWith why []) ⌝ }
     ensures { λ r. ⌜ r ≡ code (refusedWith why []) ⌝ }
 {
-    why.number + 256 * why.place
+    why.number + refusals::PLACE_UNIT * why.place
 }
 
 // 0 where nothing is refused.

@@ -4,6 +4,8 @@ use codes::count_reading;
 use codes::outcome_code;
 use codes::point;
 use model::Reading;
+use model::layout;
+use model::refusals;
 use readings::run::acknowledge;
 use readings::run::is_full;
 use run_bytes::put_run;
@@ -45,8 +47,8 @@ pub extern "C" fn crest_stake_out(
 ) -> u32
     ensures { λ r. ⌜ (r, now (room .exit)) ≡ stakeOutCall (record { x = «own_x»; y = «own_y» }) (record { x = «target_x»; y = «target_y» }) «heading_c» «heading_s» (now (room .entry)) ⌝ }
 {
-    if room.len() != 8 {
-        return 18;
+    if room.len() != layout::MOVE_SIZE {
+        return refusals::WRONG_ROOM;
     }
     let answer = stakes::stake_out(
         point(own_x, own_y),
@@ -63,8 +65,8 @@ pub extern "C" fn crest_acknowledge(run: &mut [u8]) -> u32
     ensures { λ r. ⌜ (r, now (run .exit)) ≡ acknowledgeCall (now (run .entry)) ⌝ }
 {
     let len = run.len();
-    if len != 24 {
-        return 18;
+    if len != layout::RUN_SIZE {
+        return refusals::WRONG_ROOM;
     }
     let state = run_at(run);
     let cleared = acknowledge(state);
@@ -76,12 +78,12 @@ pub extern "C" fn crest_acknowledge(run: &mut [u8]) -> u32
 fn note_reading(crest: &[u8], reading: Reading, run: &mut [u8]) -> u32
     ensures { λ r. ⌜ (r, now (run .exit)) ≡ readingCall (now (crest .entry)) reading (now (run .entry)) ⌝ }
 {
-    if run.len() != 24 {
-        return 18;
+    if run.len() != layout::RUN_SIZE {
+        return refusals::WRONG_ROOM;
     }
     let state = run_at(run);
     if is_full(state) {
-        return 16;
+        return refusals::RUN_FULL;
     }
     count_reading(answers::answer(crest, reading), run)
 }

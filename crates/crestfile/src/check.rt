@@ -3,6 +3,14 @@ use blocks::fields_fit;
 use blocks::part_at;
 use blocks::sums_agree;
 use model::Outcome;
+use model::layout::BLOCK_SIZE;
+use model::layout::FOUR_BLOCKS;
+use model::layout::PER_BLOCK;
+use model::layout::RECORD_SIZE;
+use model::layout::THREE_BLOCKS;
+use model::layout::TWO_BLOCKS;
+use model::layout::USED_AT;
+use model::refusals;
 use records::check_record;
 use records::refused;
 ghost use mathlib.Core.Bool.{true};
@@ -21,8 +29,8 @@ fn check_length(len: usize) -> Outcome
     ensures { λ o. ⌜ o ≡ verdict (rule₀ byteCount (lengthFits len) ∷ []) ⌝ }
 {
     match len {
-        512 | 1024 | 1536 | 2048 => Outcome::Done,
-        _ => refused(1, 0),
+        BLOCK_SIZE | TWO_BLOCKS | THREE_BLOCKS | FOUR_BLOCKS => Outcome::Done,
+        _ => refused(refusals::BYTE_COUNT, 0),
     }
 }
 
@@ -42,14 +50,14 @@ fn check_block(what: BlockCheck, n: usize, b: usize, block: &[u8]) -> Outcome
             if sums_agree(block) {
                 Outcome::Done
             } else {
-                refused(2, b as u32)
+                refused(refusals::CHECKSUM, b as u32)
             }
         }
         BlockCheck::Fields => {
             if fields_fit(n, b, block) {
                 Outcome::Done
             } else {
-                refused(3, b as u32)
+                refused(refusals::BLOCK_FIELD, b as u32)
             }
         }
     }
@@ -60,10 +68,10 @@ fn check_each(what: BlockCheck, file: &[u8]) -> Outcome
     requires { ⌜ length (now file) ≤ 2048 ⌝ }
     ensures { λ o. ⌜ o ≡ verdict (eachBlock what (now (file .entry))) ⌝ }
 {
-    let n = file.len() / 512;
+    let n = file.len() / BLOCK_SIZE;
     let mut b = 0;
     while b < n {
-        match check_block(what, n, b, part_at(file, 512 * b, 512)) {
+        match check_block(what, n, b, part_at(file, BLOCK_SIZE * b, BLOCK_SIZE)) {
             Outcome::Refused(x) => return Outcome::Refused(x),
             Outcome::Done => {}
         }
@@ -92,8 +100,8 @@ pub fn record_count(file: &[u8]) -> usize
     requires { ⌜ verdict (blocksRules (now file)) ≡ Outcome.Done ⌝ }
     ensures { λ r. ⌜ r ≡ countOf (recordBytes (now (file .entry))) ⌝ }
 {
-    let last = file.len() / 512 - 1;
-    15 * last + fields::u16_at(file, 512 * last + 482) as usize
+    let last = file.len() / BLOCK_SIZE - 1;
+    PER_BLOCK * last + fields::u16_at(file, BLOCK_SIZE * last + USED_AT) as usize
 }
 
 // Where record r, counted from 0 over all blocks, starts in a file.
@@ -101,7 +109,7 @@ pub fn record_start(r: usize) -> usize
     requires { ⌜ r < 60 ⌝ }
     ensures { λ n. ⌜ n ≡ recordStart r ⌝ }
 {
-    512 * (r / 15) + 32 * (r % 15)
+    BLOCK_SIZE * (r / PER_BLOCK) + RECORD_SIZE * (r % PER_BLOCK)
 }
 
 // 4 to 7: every record of a file whose blocks are accepted, where it stands in the file.
@@ -113,7 +121,7 @@ pub fn check_records(file: &[u8]) -> Outcome
     let mut r = 0;
     while r < n {
         let at = record_start(r);
-        match check_record(part_at(file, at, 32), r as u32) {
+        match check_record(part_at(file, at, RECORD_SIZE), r as u32) {
             Outcome::Refused(x) => return Outcome::Refused(x),
             Outcome::Done => {}
         }
@@ -127,10 +135,10 @@ pub fn check_record_bytes(records: &[u8]) -> Outcome
     requires { ⌜ countFits (length (now records)) ≡ true ⌝ }
     ensures { λ o. ⌜ o ≡ verdict (forEach (λ r. recordRules (recordOf (now (records .entry)) r) r) (countOf (now (records .entry))) 0) ⌝ }
 {
-    let n = records.len() / 32;
+    let n = records.len() / RECORD_SIZE;
     let mut r = 0;
     while r < n {
-        match check_record(part_at(records, 32 * r, 32), r as u32) {
+        match check_record(part_at(records, RECORD_SIZE * r, RECORD_SIZE), r as u32) {
             Outcome::Refused(x) => return Outcome::Refused(x),
             Outcome::Done => {}
         }

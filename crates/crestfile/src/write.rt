@@ -1,5 +1,10 @@
 // The one file of record bytes, written into lent room block by block.
 use blocks::write_block;
+use model::layout::BLOCK_SIZE;
+use model::layout::MOST_RECORDS;
+use model::layout::PER_BLOCK;
+use model::layout::RECORD_SIZE;
+use model::layout::RECORDS_END;
 ghost use mathlib.Core.Bool.{true};
 ghost use mathlib.Core.Path.{_≡_};
 ghost use Prim.Native.Nat.{_+_, _*_, _≤_, _<_, min};
@@ -11,14 +16,14 @@ ghost use Rattle.model.specs.Writer.{blocksNeeded, fileOf, countFits};
 pub fn count_fits(len: usize) -> bool
     ensures { λ r. ⌜ r ≡ countFits len ⌝ }
 {
-    if len % 32 != 0 {
+    if len % RECORD_SIZE != 0 {
         return false;
     }
-    let n = len / 32;
+    let n = len / RECORD_SIZE;
     if n < 1 {
         return false;
     }
-    n <= 60
+    n <= MOST_RECORDS
 }
 
 // Where a block's records end that start at `from`, of `len` bytes.
@@ -26,8 +31,14 @@ fn block_end(from: usize, len: usize) -> usize
     requires { ⌜ from + 480 < 65536 ⌝ }
     ensures { λ r. ⌜ r ≡ min (from + 480) len ⌝ }
 {
-    if from + 480 < len { from + 480 } else { len }
+    if from + RECORDS_END < len {
+        from + RECORDS_END
+    } else {
+        len
+    }
 }
+
+const FILL: usize = PER_BLOCK - 1;
 
 // The file of 1 to 60 records, at the front of the room; the rest of the room stays as it came.
 pub fn write_blocks(records: &[u8], room: &mut [u8])
@@ -36,13 +47,13 @@ pub fn write_blocks(records: &[u8], room: &mut [u8])
     ensures { λ _. ⌜ now (room .exit) ≡ put (now (room .entry)) 0 (fileOf (now (records .entry))) ⌝ }
 {
     let len = records.len();
-    let n = (len / 32 + 14) / 15;
+    let n = (len / RECORD_SIZE + FILL) / PER_BLOCK;
     let mut b = 0;
     while b < n {
-        let from = 480 * b;
+        let from = RECORDS_END * b;
         let to = block_end(from, len);
-        let at = 512 * b;
-        write_block(&mut room[at..at + 512], b, &records[from..to]);
+        let at = BLOCK_SIZE * b;
+        write_block(&mut room[at..at + BLOCK_SIZE], b, &records[from..to]);
         b += 1;
     }
 }

@@ -1,6 +1,7 @@
 // Exported for measurement: many stations of one element, which is prepared once, and many whole square roots.
 use elements::Prepared;
 use model::Outcome;
+use model::layout;
 ghost use mathlib.Core.Path.{_≡_};
 ghost use Prim.Native.Nat.{_*_, _^_, _<_, _≤_};
 ghost use lib.IntN.{natAbs, _+ℤ_};
@@ -49,7 +50,7 @@ fn positions(p: Prepared, count: u32) -> i64
 pub extern "C" fn element_positions(rec: &[u8], count: u32) -> i64
     ensures { λ r. ⌜ r ≡ sumOver (now (rec .entry)) count ⌝ }
 {
-    if rec.len() != 32 {
+    if rec.len() != layout::RECORD_SIZE {
         return 0;
     }
     match records::check_record(rec, 0) {

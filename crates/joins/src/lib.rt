@@ -3,6 +3,8 @@ use elements::Placement;
 use model::Alignment;
 use model::Outcome;
 use model::Point;
+use model::limits;
+use model::refusals;
 use records::magnitude;
 use records::refused;
 ghost use mathlib.Core.Path.{_≡_};
@@ -55,13 +57,13 @@ fn check_join(last: Placement, first: Placement, r: u32) -> Outcome
     requires { ⌜ SmallPlacement first ⌝ }
     ensures { λ o. ⌜ o ≡ verdict (placedRules last first r) ⌝ }
 {
-    let meets = close_by(100, position_in(last), position_in(first));
-    let continues = close_by(1000000, direction_in(last), direction_in(first));
+    let meets = close_by(limits::WIDEST_GAP, position_in(last), position_in(first));
+    let continues = close_by(limits::WIDEST_KINK, direction_in(last), direction_in(first));
     if !meets {
-        return refused(8, r);
+        return refused(refusals::GAP, r);
     }
     if !continues {
-        return refused(9, r);
+        return refused(refusals::KINK, r);
     }
     Outcome::Done
 }

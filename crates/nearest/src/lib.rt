@@ -5,6 +5,8 @@ use model::Located;
 use model::Outcome;
 use model::Point;
 use model::Refusal;
+use model::limits;
+use model::refusals;
 ghost use mathlib.Core.Path.{_≡_};
 ghost use Rattle.model.specs.Accepted.{AlignmentAccepted};
 ghost use Rattle.model.specs.Stations.{used};
@@ -25,18 +27,18 @@ pub fn locate(a: Alignment, q: Point) -> Located
     ensures { λ r. ⌜ r ≡ locatedOn (used a) q ⌝ }
 {
     if !records::in_frame(q.x, q.y) {
-        return refused(11);
+        return refused(refusals::OUTSIDE_FRAME);
     }
     let w = walk::walk(a, q);
-    if w.best > 400000000000000 {
-        return refused(12);
+    if w.best > limits::FARTHEST {
+        return refused(refusals::TOO_FAR);
     }
     let d = sides::to_point(stations::placed_at(a, w.at), q);
     if sides::before_start(w.at, d.residual) {
-        return refused(13);
+        return refused(refusals::BEFORE_START);
     }
     if sides::after_end(w.at, stations::total(a), d.residual) {
-        return refused(14);
+        return refused(refusals::AFTER_END);
     }
     Located::At {
         station: w.at,

@@ -2,6 +2,7 @@
 use elements::Placement;
 use elements::rounding::near_sum;
 use model::Point;
+use model::limits;
 ghost use mathlib.Core.Bool.{_&&_};
 ghost use mathlib.Core.Path.{_≡_};
 ghost use lib.Dec.{eqb};
@@ -35,12 +36,12 @@ pub fn to_point(at: Placement, q: Point) -> Sides
 pub fn before_start(s: u64, residual: i64) -> bool
     ensures { λ r. ⌜ r ≡ (eqb s 0 && ltZ residual (negℤ (pos pastEnd))) ⌝ }
 {
-    s == 0 && residual < -100
+    s == 0 && residual < limits::PAST_START
 }
 
 // Whether a point lies after the end: the station judged is T, and the residual is above 100.
 pub fn after_end(s: u64, t: u64, residual: i64) -> bool
     ensures { λ r. ⌜ r ≡ (eqb s t && ltZ (pos pastEnd) residual) ⌝ }
 {
-    s == t && residual > 100
+    s == t && residual > limits::PAST_END
 }

@@ -9,11 +9,17 @@ use model::Inverse;
 use model::Located;
 use model::Placed;
 use model::Refusal;
+use model::refusals;
 ghost use mathlib.Core.Path.{_≡_};
 ghost use lib.ListN.{length};
 ghost use lib.IntN.{pos};
 ghost use Rattle.probes.specs.Replies.{fromPlaced, fromLocated, fromInverse, replyCode, replyBytes, Sendable};
 ghost use Rattle.probes.specs.Calls.{positionCall, locateCall, inverseCall};
+
+// Room for two numbers of 32 bits, and for four.
+const TWO_SIZE: usize = 8;
+
+const FOUR_SIZE: usize = 16;
 
 // What is sent back: numbers of 32 bits for the room, or a refusal.
 pub enum Reply {
@@ -74,7 +80,7 @@ fn send(reply: Reply, room: &mut [u8]) -> u32
     match reply {
         Reply::Four { a, b, c, d } => {
             put_two(room, 0, a, b);
-            put_two(room, 8, c, d);
+            put_two(room, TWO_SIZE, c, d);
             0
         }
         Reply::Two { a, b } => {
@@ -90,8 +96,8 @@ fn send(reply: Reply, room: &mut [u8]) -> u32
 pub extern "C" fn probe_position(file: &[u8], station: u32, out: &mut [u8]) -> u32
     ensures { λ r. ⌜ (r, now (out .exit)) ≡ positionCall (now (file .entry)) (pos station) (now (out .entry)) ⌝ }
 {
-    if out.len() != 16 {
-        return 18;
+    if out.len() != FOUR_SIZE {
+        return refusals::WRONG_ROOM;
     }
     send(from_placed(position(file, station as i64)), out)
 }
@@ -101,8 +107,8 @@ pub extern "C" fn probe_position(file: &[u8], station: u32, out: &mut [u8]) -> u
 pub extern "C" fn probe_locate(file: &[u8], x: i32, y: i32, out: &mut [u8]) -> u32
     ensures { λ r. ⌜ (r, now (out .exit)) ≡ locateCall (now (file .entry)) (record { x = x; y = y }) (now (out .entry)) ⌝ }
 {
-    if out.len() != 16 {
-        return 18;
+    if out.len() != FOUR_SIZE {
+        return refusals::WRONG_ROOM;
     }
     send(from_located(locate(file, point(x, y))), out)
 }
@@ -112,8 +118,8 @@ pub extern "C" fn probe_locate(file: &[u8], x: i32, y: i32, out: &mut [u8]) -> u
 pub extern "C" fn probe_inverse(file: &[u8], station: u32, offset: i32, out: &mut [u8]) -> u32
     ensures { λ r. ⌜ (r, now (out .exit)) ≡ inverseCall (now (file .entry)) (pos station) offset (now (out .entry)) ⌝ }
 {
-    if out.len() != 8 {
-        return 18;
+    if out.len() != TWO_SIZE {
+        return refusals::WRONG_ROOM;
     }
     send(
         from_inverse(inverse(file, station as i64, offset as i64)),

@@ -4,6 +4,8 @@ use alignment::part::record_part;
 use blocks::copy_at;
 use codes::code_of;
 use model::Outcome;
+use model::layout;
+use model::refusals;
 ghost use mathlib.Core.Path.{_≡_};
 ghost use Rattle.record_probe.specs.Calls.{recordCall};
 
@@ -12,8 +14,8 @@ ghost use Rattle.record_probe.specs.Calls.{recordCall};
 pub extern "C" fn probe_record(file: &[u8], r: u32, out: &mut [u8]) -> u32
     ensures { λ n. ⌜ (n, now (out .exit)) ≡ recordCall (now (file .entry)) r (now (out .entry)) ⌝ }
 {
-    if out.len() != 32 {
-        return 18;
+    if out.len() != layout::RECORD_SIZE {
+        return refusals::WRONG_ROOM;
     }
     match record_outcome(file, r as usize) {
         Outcome::Done => {

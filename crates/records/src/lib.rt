@@ -4,6 +4,9 @@ use model::Kind;
 use model::KindByte;
 use model::Outcome;
 use model::Refusal;
+use model::layout;
+use model::limits;
+use model::refusals;
 ghost use mathlib.Core.Path.{_≡_};
 ghost use Prim.Native.Nat.{_+_, _≤_};
 ghost use mathlib.Core.Bool.{_&&_};
@@ -40,29 +43,32 @@ pub fn magnitude(z: i64) -> u64
 pub fn in_frame(x: i64, y: i64) -> bool
     ensures { λ r. ⌜ r ≡ inFrame x y ⌝ }
 {
-    if magnitude(x) > 200000000 {
+    if magnitude(x) > limits::FRAME {
         return false;
     }
-    magnitude(y) <= 200000000
+    magnitude(y) <= limits::FRAME
 }
 
-// Whether c² + s² is at most 2^31 from 2^60. Components above 2^31 are no unit's, and the squares of others add up to a u64.
+// Components above 2^31 are no unit's, and the squares of others add up to a u64.
+const COMPONENT: u64 = 0x8000_0000;
+
+// Whether c² + s² is at most 2^31 from 2^60.
 pub fn is_unit(c: i64, s: i64) -> bool
     ensures { λ r. ⌜ r ≡ isUnit c s ⌝ }
 {
     let m = magnitude(c);
     let n = magnitude(s);
-    if m > 0x8000_0000 {
+    if m > COMPONENT {
         return false;
     }
-    if n > 0x8000_0000 {
+    if n > COMPONENT {
         return false;
     }
     let sum = m * m + n * n;
-    if sum > 0x1000_0000_8000_0000 {
+    if sum > limits::MOST_UNIT {
         return false;
     }
-    sum >= 0x0fff_ffff_8000_0000
+    sum >= limits::LEAST_UNIT
 }
 
 // Whether x is from low to high.
@@ -82,9 +88,9 @@ fn radius_good(kind: Kind, l: u64, r: u64) -> bool
 {
     match kind {
         Kind::Line => r == 0,
-        Kind::Arc => between(2 * l, r, 10000000),
-        Kind::EntrySpiral => between(l, r, 10000000),
-        Kind::ExitSpiral => between(l, r, 10000000),
+        Kind::Arc => between(2 * l, r, limits::WIDEST),
+        Kind::EntrySpiral => between(l, r, limits::WIDEST),
+        Kind::ExitSpiral => between(l, r, limits::WIDEST),
     }
 }
 
@@ -92,7 +98,7 @@ fn radius_good(kind: Kind, l: u64, r: u64) -> bool
 fn ranges_good(e: Element) -> bool
     ensures { λ r. ⌜ r ≡ rangesGood e ⌝ }
 {
-    if !between(1, e.length, 500000) {
+    if !between(1, e.length, limits::LONGEST_ELEMENT) {
         return false;
     }
     let kind = e.kind;
@@ -127,13 +133,13 @@ pub fn element(rec: &[u8]) -> Element
     ensures { λ r. ⌜ r ≡ elementOf (now (rec .entry)) ⌝ }
 {
     Element {
-        kind: kind_in(rec[0]),
-        length: fields::u32_at(rec, 4) as u64,
-        x: wide_at(rec, 8),
-        y: wide_at(rec, 12),
-        c: wide_at(rec, 16),
-        s: wide_at(rec, 20),
-        radius: wide_at(rec, 24),
+        kind: kind_in(rec[layout::KIND_AT]),
+        length: fields::u32_at(rec, layout::LENGTH_AT) as u64,
+        x: wide_at(rec, layout::X_AT),
+        y: wide_at(rec, layout::Y_AT),
+        c: wide_at(rec, layout::C_AT),
+        s: wide_at(rec, layout::S_AT),
+        radius: wide_at(rec, layout::RADIUS_AT),
     }
 }
 
@@ -142,10 +148,10 @@ fn reserved_zero(rec: &[u8]) -> bool
     requires { ⌜ length (now rec) ≡ 32 ⌝ }
     ensures { λ r. ⌜ r ≡ reservedZero (now (rec .entry)) ⌝ }
 {
-    if !all_zero(&rec[1..4]) {
+    if !all_zero(&rec[layout::FIRST_ZEROS_AT..layout::LENGTH_AT]) {
         return false;
     }
-    all_zero(&rec[28..32])
+    all_zero(&rec[layout::LAST_ZEROS_AT..layout::RECORD_SIZE])
 }
 
 // The refusal with this number and place.
@@ -160,20 +166,20 @@ pub fn check_record(rec: &[u8], r: u32) -> Outcome
     requires { ⌜ length (now rec) ≡ 32 ⌝ }
     ensures { λ o. ⌜ o ≡ verdict (recordRules (now (rec .entry)) r) ⌝ }
 {
-    match model::kind_of(rec[0]) {
-        KindByte::Damaged => return refused(4, r),
-        KindByte::Later => return refused(5, r),
+    match model::kind_of(rec[layout::KIND_AT]) {
+        KindByte::Damaged => return refused(refusals::DAMAGED_RECORD, r),
+        KindByte::Later => return refused(refusals::LATER_KIND, r),
         KindByte::Known(_) => {}
     }
     if !reserved_zero(rec) {
-        return refused(4, r);
+        return refused(refusals::DAMAGED_RECORD, r);
     }
     let e = element(rec);
     if !ranges_good(e) {
-        return refused(6, r);
+        return refused(refusals::FIELD_OUT_OF_RANGE, r);
     }
     if !is_unit(e.c, e.s) {
-        return refused(7, r);
+        return refused(refusals::NOT_UNIT, r);
     }
     Outcome::Done
 }

@@ -1,5 +1,6 @@
 // The run record from and to the 24 bytes that a C caller lends.
 use model::Run;
+use model::layout;
 ghost use mathlib.Core.Path.{_≡_};
 ghost use lib.ListN.{length};
 ghost use Rattle.model.specs.Run.{runAt, runBytes};
@@ -9,14 +10,14 @@ pub fn run_at(bytes: &[u8]) -> Run
     requires { ⌜ length (now bytes) ≡ 24 ⌝ }
     ensures { λ r. ⌜ r ≡ runAt (now (bytes .entry)) ⌝ }
 {
-    let answered = fields::u16_at(bytes, 0);
-    let refused = fields::u16_at(bytes, 2);
-    let latest = fields::u16_at(bytes, 4);
-    let first = fields::u16_at(bytes, 6);
-    let reading = fields::u16_at(bytes, 8);
-    let one = fields::i32_at(bytes, 12);
-    let two = fields::i32_at(bytes, 16);
-    let three = fields::i32_at(bytes, 20);
+    let answered = fields::u16_at(bytes, layout::ANSWERED_AT);
+    let refused = fields::u16_at(bytes, layout::REFUSED_AT);
+    let latest = fields::u16_at(bytes, layout::LATEST_AT);
+    let first = fields::u16_at(bytes, layout::FIRST_AT);
+    let reading = fields::u16_at(bytes, layout::READING_AT);
+    let one = fields::i32_at(bytes, layout::ONE_AT);
+    let two = fields::i32_at(bytes, layout::TWO_AT);
+    let three = fields::i32_at(bytes, layout::THREE_AT);
     Run {
         answered,
         refused,
@@ -34,12 +35,12 @@ pub fn put_run(bytes: &mut [u8], run: Run)
     requires { ⌜ length (now bytes) ≡ 24 ⌝ }
     ensures { λ _. ⌜ now (bytes .exit) ≡ runBytes run (now (bytes .entry)) ⌝ }
 {
-    fields::put_u16(bytes, 0, run.answered);
-    fields::put_u16(bytes, 2, run.refused);
-    fields::put_u16(bytes, 4, run.latest);
-    fields::put_u16(bytes, 6, run.first);
-    fields::put_u16(bytes, 8, run.reading);
-    fields::put_i32(bytes, 12, run.one);
-    fields::put_i32(bytes, 16, run.two);
-    fields::put_i32(bytes, 20, run.three);
+    fields::put_u16(bytes, layout::ANSWERED_AT, run.answered);
+    fields::put_u16(bytes, layout::REFUSED_AT, run.refused);
+    fields::put_u16(bytes, layout::LATEST_AT, run.latest);
+    fields::put_u16(bytes, layout::FIRST_AT, run.first);
+    fields::put_u16(bytes, layout::READING_AT, run.reading);
+    fields::put_i32(bytes, layout::ONE_AT, run.one);
+    fields::put_i32(bytes, layout::TWO_AT, run.two);
+    fields::put_i32(bytes, layout::THREE_AT, run.three);
 }

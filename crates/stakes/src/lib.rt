@@ -3,6 +3,7 @@ use elements::rounding::near_sum;
 use model::Move;
 use model::Point;
 use model::Refusal;
+use model::refusals;
 use records::in_frame;
 use records::is_unit;
 ghost use mathlib.Core.Path.{_≡_};
@@ -28,19 +29,19 @@ pub fn stake_out(own: Point, target: Point, c: i64, s: i64) -> Move
 {
     if !in_frame(own.x, own.y) {
         return Move::Refused(Refusal {
-            number: 11,
+            number: refusals::OUTSIDE_FRAME,
             place: 0,
         });
     }
     if !in_frame(target.x, target.y) {
         return Move::Refused(Refusal {
-            number: 11,
+            number: refusals::OUTSIDE_FRAME,
             place: 0,
         });
     }
     if !is_unit(c, s) {
         return Move::Refused(Refusal {
-            number: 7,
+            number: refusals::NOT_UNIT,
             place: 0,
         });
     }

@@ -7,6 +7,8 @@ use model::Inverse;
 use model::Placed;
 use model::Point;
 use model::Refusal;
+use model::limits;
+use model::refusals;
 use records::in_frame;
 use records::magnitude;
 ghost use mathlib.Core.Bool.{_&&_};
@@ -106,7 +108,7 @@ pub fn place(a: Alignment, s: i64) -> Placed
 {
     if !is_station(a, s) {
         return Placed::Refused(Refusal {
-            number: 15,
+            number: refusals::ASKED_OUT_OF_RANGE,
             place: 0,
         });
     }
@@ -127,7 +129,7 @@ fn on_line(a: Alignment, s: i64, w: i64) -> bool
     if !is_station(a, s) {
         return false;
     }
-    magnitude(w) <= 20000000
+    magnitude(w) <= limits::WIDEST_OFFSET
 }
 
 // An offset along a component of the direction.
@@ -161,14 +163,14 @@ pub fn inverse(a: Alignment, s: i64, w: i64) -> Inverse
 {
     if !on_line(a, s, w) {
         return Inverse::Refused(Refusal {
-            number: 15,
+            number: refusals::ASKED_OUT_OF_RANGE,
             place: 0,
         });
     }
     let q = inverse_at(a, s as u64, w);
     if !in_frame(q.x, q.y) {
         return Inverse::Refused(Refusal {
-            number: 11,
+            number: refusals::OUTSIDE_FRAME,
             place: 0,
         });
     }

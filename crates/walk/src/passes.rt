@@ -6,6 +6,8 @@ use crate::visit::Stride;
 use elements::Prepared;
 use model::Alignment;
 use model::Point;
+use model::layout::MOST_RECORDS;
+use model::limits;
 ghost use mathlib.Core.Path.{_≡_};
 ghost use Prim.Native.Nat.{_^_, _≤_};
 ghost use Rattle.model.specs.Accepted.{AlignmentAccepted};
@@ -14,7 +16,10 @@ ghost use Rattle.model.specs.Walk.{elementVisits};
 ghost use Rattle.walk.specs.Search.{InFrame, seenOver, onElement, firstOn, endVisit, passOn, passOver, boundsIn, Passable};
 
 // The bounds of 60 elements at most: one before each, and one after the last.
-pub type Bounds = [u64; 61];
+pub type Bounds = [u64; MOST_RECORDS + 1];
+
+// Added before a division by the step, it rounds up.
+const ROUND_UP: u64 = limits::FIRST_STEP - 1;
 
 // The first pass over an element's own stations: those that are multiples of 1000.
 fn multiples_on(p: Prepared, own: u64, start: u64, q: Point, w: Seen) -> Seen
@@ -22,11 +27,11 @@ fn multiples_on(p: Prepared, own: u64, start: u64, q: Point, w: Seen) -> Seen
     ensures { λ r. ⌜ r ≡ seenOver (onElement (p .element) start q) (firstOn own start) w ⌝ }
 {
     let end = start + own;
-    let mut s = (start + 999) / 1000 * 1000;
+    let mut s = (start + ROUND_UP) / limits::FIRST_STEP * limits::FIRST_STEP;
     let mut v = w;
     while s < end {
         v = visit::seen(visit::distance(p, s - start, q), s, v);
-        s += 1000;
+        s += limits::FIRST_STEP;
     }
     v
 }
@@ -42,7 +47,7 @@ fn end_on(p: Prepared, own: u64, start: u64, q: Point, w: Seen) -> Seen
         return w;
     }
     let t = start + n;
-    if t % 1000 == 0 {
+    if t % limits::FIRST_STEP == 0 {
         return w;
     }
     visit::seen(visit::distance(p, n, q), t, w)
@@ -88,7 +93,7 @@ pub fn element_bounds(a: Alignment) -> Bounds
     ensures { λ r. ⌜ r ≡ boundsIn a ⌝ }
 {
     let count = a.count;
-    let mut b: Bounds = [0; 61];
+    let mut b: Bounds = [0; MOST_RECORDS + 1];
     let mut k: usize = 0;
     let mut s: u64 = 0;
     while k < count {

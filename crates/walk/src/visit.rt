@@ -2,6 +2,7 @@
 use crate::Seen;
 use elements::Prepared;
 use model::Point;
+use model::limits;
 ghost use mathlib.Core.Path.{_≡_};
 ghost use Prim.Native.Nat.{_+_, _-_, _*_, _/_, _^_, _<_, _≤_};
 ghost use lib.IntN.{natAbs, _-ℤ_};
@@ -83,7 +84,7 @@ fn rooted(best: u64, t: Stride) -> Stride
     let b = integers::whole_root(best);
     Stride {
         root: b,
-        limit: (b + 31) * (b + 31),
+        limit: (b + limits::ROOT_SLACK) * (b + limits::ROOT_SLACK),
         skip: 0,
     }
 }
@@ -98,7 +99,7 @@ fn left_out(d: u64, b: u64, limit: u64) -> u64
     if d < limit {
         return 0;
     }
-    (integers::whole_root(d) - b - 31) / 150
+    (integers::whole_root(d) - b - limits::ROOT_SLACK) / limits::STATION_GRAINS
 }
 
 // The step after a station at the squared distance `d`, where the best before it was `best`.

@@ -1,27 +1,24 @@
 // The writer: the file of record bytes, into lent room.
 use crate::accept::of_records;
 use crestfile::check::check_record_bytes;
+use crestfile::write::blocks_needed;
 use crestfile::write::count_fits;
 use crestfile::write::write_blocks;
 use joins::check_joins;
 use model::Outcome;
 use model::layout::BLOCK_SIZE;
-use model::layout::PER_BLOCK;
-use model::layout::RECORD_SIZE;
 use model::refusals;
 use records::refused;
 ghost use mathlib.Core.Path.{_≡_};
 ghost use lib.ListN.{length};
 ghost use Rattle.model.specs.Writer.{writerOutcome, written};
 
-const FILL: usize = PER_BLOCK - 1;
-
 // 17, 4 to 9, 18: what the writer comes to, for room of this length.
 fn outcome_of(records: &[u8], room: usize) -> Outcome
     ensures { λ o. ⌜ o ≡ writerOutcome (now (records .entry)) room ⌝ }
 {
     let len = records.len();
-    let needed = BLOCK_SIZE * ((len / RECORD_SIZE + FILL) / PER_BLOCK);
+    let needed = BLOCK_SIZE * blocks_needed(len);
     let fits = count_fits(len);
     if !fits {
         return refused(refusals::RECORD_COUNT, 0);

@@ -7,9 +7,9 @@ use model::layout::RECORD_SIZE;
 use model::layout::RECORDS_END;
 ghost use mathlib.Core.Bool.{true};
 ghost use mathlib.Core.Path.{_≡_};
-ghost use Prim.Native.Nat.{_+_, _*_, _≤_, _<_, min};
+ghost use Prim.Native.Nat.{_+_, _-_, _*_, _/_, _≤_, _<_, min};
 ghost use lib.ListN.{length};
-ghost use Rattle.model.specs.Records.{put};
+ghost use Rattle.model.specs.Records.{recordSize, perBlock, put};
 ghost use Rattle.model.specs.Writer.{blocksNeeded, fileOf, countFits};
 
 // 17: whether so many bytes are 1 to 60 records.
@@ -26,6 +26,16 @@ pub fn count_fits(len: usize) -> bool
     n <= MOST_RECORDS
 }
 
+// Added before a division by the records of a block, it rounds up.
+const ROUND_UP: usize = PER_BLOCK - 1;
+
+// The blocks needed for so many record bytes: as many as hold the records, 15 in each.
+pub fn blocks_needed(len: usize) -> usize
+    ensures { λ r. ⌜ r ≡ (len / recordSize + (perBlock - 1)) / perBlock ⌝ }
+{
+    (len / RECORD_SIZE + ROUND_UP) / PER_BLOCK
+}
+
 // Where a block's records end that start at `from`, of `len` bytes.
 fn block_end(from: usize, len: usize) -> usize
     requires { ⌜ from + 480 < 65536 ⌝ }
@@ -38,8 +48,6 @@ fn block_end(from: usize, len: usize) -> usize
     }
 }
 
-const FILL: usize = PER_BLOCK - 1;
-
 // The file of 1 to 60 records, at the front of the room; the rest of the room stays as it came.
 pub fn write_blocks(records: &[u8], room: &mut [u8])
     requires { ⌜ countFits (length (now records)) ≡ true ⌝ }
@@ -47,7 +55,7 @@ pub fn write_blocks(records: &[u8], room: &mut [u8])
     ensures { λ _. ⌜ now (room .exit) ≡ put (now (room .entry)) 0 (fileOf (now (records .entry))) ⌝ }
 {
     let len = records.len();
-    let n = (len / RECORD_SIZE + FILL) / PER_BLOCK;
+    let n = blocks_needed(len);
     let mut b = 0;
     while b < n {
         let from = RECORDS_END * b;

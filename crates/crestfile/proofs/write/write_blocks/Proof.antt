@@ -2,6 +2,7 @@
 use Prim.Native.Nat.{_+_, _*_, _/_, _≤_, _<_, _-_}
 use mathlib.Core.Path.{_≡_, ap, _∙_}
 use native.Mathlib.Omega.{arith}
+use borrow.Author.Needs.{needs}
 use lib.ListN.{length, length-take}
 use Rattle.model.specs.Records.{put}
 use Rattle.model.specs.Writer.{block}
@@ -19,13 +20,13 @@ abbrev μ-loop : tie.MeasureT-loop
 μ-loop records room₀ len n b₀ room b = n - b
 
 -- the records, by their number
-few : (c : tie.In-loop Inv-loop μ-loop) → let n = length (c .before .before .before .before .args .records .now) in (n ≡ 32 * (n / 32)) × (n / 32 ≤ 60) × (c .before .loop .b < (n / 32 + 14) / 15)
+few : (c : tie.In-loop Inv-loop μ-loop) → let n = length (c .before .before .before .before .before .args .records .now) in (n ≡ 32 * (n / 32)) × (n / 32 ≤ 60) × (c .before .loop .b < (n / 32 + 14) / 15)
 few c =
-    let f = count-fits _ .0 (c .before .before .before .before .pre .0) in
-    (omega arith, omega arith, c .loop-test .taken)
+    let f = count-fits _ .0 (c .before .before .before .before .before .pre .0) in
+    (omega arith, omega arith, omega (arith, c .loop-test .taken, c .before .before .blocks-needed .ensures))
 
-add-n : tie.Need-add-n Inv-loop μ-loop
-add-n c = omega arith
+blocks-needed-requires : tie.Need-blocks-needed-requires Inv-loop μ-loop
+blocks-needed-requires c κs = search needs
 
 loop-holds : tie.Need-loop-holds Inv-loop μ-loop
 loop-holds c = none-written _ _
@@ -76,13 +77,13 @@ loop-again c =
     let w = c .before .before in
     let i = w .before .before .before .before in
     let l = i .before in
-    let a = l .before .before .before .args in
+    let a = l .before .before .before .before .args in
     let room = l .loop .room in
     let b = l .loop .b in
     let f = few i in
     let long = w .write-block .kept .0 ∙ lent-length room (512 * b) 512 (omega arith) in
     let mine = block-part (a .records .now) (480 * b) (w .before .before .before .block-end .result) (w .before .before .before .block-end .ensures) (omega arith) in
-    one-more-written (a .records .now) (a .room .now) (length (a .records .now) / 32) (f .0) (l .before .before .before .pre .1) (omega arith)
+    one-more-written (a .records .now) (a .room .now) (length (a .records .now) / 32) (f .0) (l .before .before .before .before .pre .1) (omega arith)
     (lent-back room (512 * b) 512 (w .write-block .last .0) long ∙ ap (λ x. put room (512 * b) x) (w .write-block .ensures ∙ ap (λ x. block b x) mine))
     (l .loop .inv)
 
@@ -98,7 +99,7 @@ write-blocks-spec =
     (tie.spec
     Inv-loop
     μ-loop
-    add-n
+    blocks-needed-requires
     loop-holds
     mul-from
     block-end-requires

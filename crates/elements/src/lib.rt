@@ -72,7 +72,7 @@ pub fn prepare(e: Element) -> Prepared
 {
     let kind = e.kind;
     let negative = signs::sign_of(e.radius);
-    let divisor = divisor_of(kind, signs::magnitude(e.radius), e.length);
+    let divisor = divisor_of(kind, integers::magnitude(e.radius), e.length);
     let back = backward_on(kind);
     Prepared {
         element: e,

@@ -8,6 +8,7 @@ pub mod Linear
 pub mod Ranges
 pub mod Machine
 pub mod Floor
+pub mod Signs
 pub mod Root
 pub mod Plane
 mod Shown

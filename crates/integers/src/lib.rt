@@ -9,6 +9,13 @@ ghost use Rattle.integers.specs.Root.{root};
 
 mod guess;
 
+// The absolute value, which of the least i64 is no i64.
+pub fn magnitude(z: i64) -> u64
+    ensures { λ r. ⌜ r ≡ natAbs z ⌝ }
+{
+    if z >= 0 { z as u64 } else { (!z) as u64 + 1 }
+}
+
 // n / d, rounded down. The machine's quotient is rounded toward zero, which is one too many where the remainder is negative.
 pub fn floor_div(n: i64, d: i64) -> i64
     requires { ⌜ pos 0 <ℤ d ⌝ }

@@ -1,11 +1,11 @@
 // The joins of an alignment: gaps and kinks between an element and the next.
 use elements::Placement;
+use integers::magnitude;
 use model::Alignment;
 use model::Outcome;
 use model::Point;
 use model::limits;
 use model::refusals;
-use records::magnitude;
 use records::refused;
 ghost use mathlib.Core.Path.{_≡_};
 ghost use lib.Dec.{leb};

@@ -1,4 +1,5 @@
 // One record of a crest: its element, and its refusals.
+use integers::magnitude;
 use model::Element;
 use model::Kind;
 use model::KindByte;
@@ -12,7 +13,6 @@ ghost use Prim.Native.Nat.{_+_, _≤_};
 ghost use mathlib.Core.Bool.{_&&_};
 ghost use lib.Dec.{leb};
 ghost use lib.ListN.{length};
-ghost use lib.IntN.{natAbs};
 ghost use Rattle.model.specs.Kinds.{decide};
 ghost use Rattle.model.specs.Records.{i32At, allZero};
 ghost use Rattle.model.specs.Refusals.{verdict};
@@ -30,13 +30,6 @@ pub fn all_zero(s: &[u8]) -> bool
         i += 1;
     }
     true
-}
-
-// The absolute value, which of the least i64 is no i64.
-pub fn magnitude(z: i64) -> u64
-    ensures { λ r. ⌜ r ≡ natAbs z ⌝ }
-{
-    if z >= 0 { z as u64 } else { (!z) as u64 + 1 }
 }
 
 // Whether a point lies in the frame.

@@ -1,6 +1,7 @@
 // Stations of an accepted alignment: how far they run, where one lies, and what is asked by station.
 use elements::Placement;
 use elements::rounding::near_one;
+use integers::magnitude;
 use model::Alignment;
 use model::Element;
 use model::Inverse;
@@ -10,7 +11,6 @@ use model::Refusal;
 use model::limits;
 use model::refusals;
 use records::in_frame;
-use records::magnitude;
 ghost use mathlib.Core.Bool.{_&&_};
 ghost use mathlib.Core.List.{[], _∷_};
 ghost use mathlib.Core.Path.{_≡_};

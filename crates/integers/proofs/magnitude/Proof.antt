@@ -1,11 +1,11 @@
--- `records::magnitude` meets its contract, by the sign.
+-- `integers::magnitude` meets its contract, by the sign.
 use mathlib.Core.Path.{ap}
 use native.Mathlib.Omega.{arith}
 use borrow.Author.Needs.{needs}
 use lib.IntN.{natAbs}
-use Rattle.fields.proofs.Signs.{not-negative, negative, complement-casts}
-use Rattle.records.proofs.magnitude.Statement.{statement}
-use Rattle.records.proofs.magnitude.Tie as tie
+use Rattle.integers.proofs.Signs.{not-negative, negative, complement-casts}
+use Rattle.integers.proofs.magnitude.Statement.{statement}
+use Rattle.integers.proofs.magnitude.Tie as tie
 
 cast-result : tie.Need-cast-result
 cast-result c = not-negative (c .before .args .z) (c .before .fits .z) (c .if1 .taken) .0

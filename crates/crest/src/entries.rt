@@ -1,9 +1,11 @@
-// The entries for callers in Rattle: bytes are lent, numbers and answers go by value.
+// The entries for callers in Rattle: bytes are lent, numbers and answers go by value, and a run by value or in place.
 pub use alignment::accept::check;
 pub use alignment::part::record_outcome;
 pub use alignment::part::record_part;
 pub use alignment::write::write;
 pub use answers::answer;
+pub use in_place::acknowledge as acknowledge_in_place;
+pub use in_place::note as note_in_place;
 use model::Display;
 use model::Reading;
 use model::ReadingAnswer;

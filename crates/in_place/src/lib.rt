@@ -1,0 +1,22 @@
+// The run record, lent by the caller and changed where it lies: each by-value step, behind a reference.
+use model::Reading;
+use model::ReadingAnswer;
+use model::Run;
+ghost use mathlib.Core.Path.{_≡_};
+ghost use Rattle.model.specs.Run.{noted, acknowledged};
+
+// A reading on a run: counted, or refused with 16 where the run is full.
+pub fn note(crest: &[u8], reading: Reading, run: &mut Run) -> ReadingAnswer
+    ensures { λ r. ⌜ record { answer = r; run = now (run .exit) } ≡ noted (now (crest .entry)) reading (now (run .entry)) ⌝ }
+{
+    let noted = answers::note(crest, reading, *run);
+    *run = noted.run;
+    noted.answer
+}
+
+// Only the first refusal and its reading go.
+pub fn acknowledge(run: &mut Run)
+    ensures { λ _. ⌜ now (run .exit) ≡ acknowledged (now (run .entry)) ⌝ }
+{
+    *run = readings::run::acknowledge(*run);
+}

@@ -33,7 +33,7 @@ unfolding allZero
 zeros→allZero zero = refl
 zeros→allZero (suc n) = zeros→allZero n
 
-part-zero : (l : List ℕ) (at n : ℕ) → at + n ≤ length l → (allZero (part l at n) ≡ true) ↔ (part l at n ≡ replicate n 0)
+pub part-zero : (l : List ℕ) (at n : ℕ) → at + n ≤ length l → (allZero (part l at n) ≡ true) ↔ (part l at n ≡ replicate n 0)
 part-zero l at n h = (λ e. rw (length-part l at n h) at (allZero→zeros (part l at n) e), λ e. rw e (zeros→allZero n))
 
 -- ---- records in use

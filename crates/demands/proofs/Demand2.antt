@@ -4,7 +4,7 @@ use Prim.Native.Nat.{ℕ, _<_, _≤_}
 use mathlib.Core.Bool.{true, false}
 use mathlib.Core.List.{List, _++_}
 use mathlib.Core.Logic.{_≢_}
-use mathlib.Core.Path.{_≡_, _∙_, ap}
+use mathlib.Core.Path.{_≡_, sym, _∙_, ap}
 use native.Mathlib.Nat.{zero-add}
 use lib.ListN.{length, take, drop, set}
 use lib.Seq.{take-append-seam, drop-append-seam}
@@ -14,7 +14,7 @@ use Rattle.model.specs.declared.Outcome.the-variants.{Done}
 use Rattle.model.specs.Records.{byteAt, put, recordBytes, countOf, recordOf}
 use Rattle.model.specs.Refusals.{verdict, orRefused}
 use Rattle.model.specs.Bound.{Bounded}
-use Rattle.model.specs.Acceptance.{sumsAgree, checked, crestRules}
+use Rattle.model.specs.Acceptance.{sumsAgree, checked, crestRules, crestElements}
 use Rattle.model.specs.Accepted.{Accepted}
 use Rattle.model.specs.Writer.{fileOf, writerOutcome, roomAfter, written}
 use Rattle.model.specs.Answers.{readerOutcome, spanIf, readerSpan, readerPart}
@@ -26,6 +26,7 @@ use Rattle.crestfile.proofs.WriterRules.{writer-done}
 use Rattle.crestfile.proofs.Part.{record-part}
 use Rattle.demands.proofs.ReadThenWritten as reading
 use Rattle.demands.proofs.WrittenBytes as bytes
+use Rattle.demands.proofs.ElementBytes.{elementsBytes, records-of-elements}
 use Rattle.demands.proofs.SingleByte as changed
 
 -- ---- "positions lie within the bound of the series sum"
@@ -70,6 +71,14 @@ module _ (records room : List ℕ) (done : writerOutcome records (length room) �
 -- two accepted files with the same records are the same bytes
 pub one-file : (file other : List ℕ) → AllBytes file → AllBytes other → checked file ≡ Done → checked other ≡ Done → recordBytes file ≡ recordBytes other → file ≡ other
 one-file = reading.one-file
+
+-- "A crest alignment is 1 to 60 elements read from blocks.": two accepted files with the same elements are the same bytes, since an accepted file is the file of its elements
+pub file-of-its-elements : (file : List ℕ) → AllBytes file → checked file ≡ Done → fileOf (elementsBytes (crestElements file)) ≡ file
+file-of-its-elements file b e = ap fileOf (records-of-elements file b e) ∙ reading.read-then-written file b e .1
+
+pub one-file-per-crest : (file other : List ℕ) → AllBytes file → AllBytes other → checked file ≡ Done → checked other ≡ Done → crestElements file ≡ crestElements other → file ≡ other
+one-file-per-crest file other b₁ b₂ e₁ e₂ same =
+    sym (file-of-its-elements file b₁ e₁) ∙ ap (λ es. fileOf (elementsBytes es)) same ∙ file-of-its-elements other b₂ e₂
 
 -- an accepted file is the file of its records, which the writer leaves in any room that is long enough
 pub file-of-its-records : (file : List ℕ) → AllBytes file → checked file ≡ Done → fileOf (recordBytes file) ≡ file

@@ -1,3 +1,5 @@
+-- Fields and their bytes.
+pub mod FieldBytes
 -- The run record under any history of calls.
 pub mod Events
 pub mod RunBytes
@@ -8,6 +10,7 @@ pub mod WrongRuns
 pub mod WrittenThenRead
 pub mod ReadThenWritten
 pub mod WrittenBytes
+pub mod ElementBytes
 pub mod SingleByte
 -- Orders of refusals, and the answers that they come to.
 pub mod Orders

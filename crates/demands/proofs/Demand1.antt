@@ -3,8 +3,9 @@
 use Prim.Native.Nat.{ℕ, _+_, _*_, _≤_}
 use mathlib.Core.Bool.{Bool, true, false}
 use mathlib.Core.List.{List, [], _∷_, _++_}
-use mathlib.Core.Logic.{_⊎_, inl, inr, _↔_}
+use mathlib.Core.Logic.{_≢_, _⊎_, inl, inr, _↔_}
 use mathlib.Core.Path.{_≡_, refl, sym, _∙_, ap, subst}
+use native.Mathlib.Nat.{add-zero}
 use native.Mathlib.Omega.{arith}
 use native.Mathlib.Decide.{ℕ-discrete}
 use lib.Dec.{eqb, ltb}
@@ -24,8 +25,8 @@ use Rattle.model.specs.declared.Move.the-variants.{By, Refused as MoveRefused}
 use Rattle.model.specs.declared.Reading.{Reading}
 use Rattle.model.specs.declared.Reading.the-variants.{PlanePoint, LinePlace}
 use Rattle.model.specs.declared.ReadingAnswer.{ReadingAnswer}
-use Rattle.model.specs.declared.ReadingAnswer.the-variants.{Refused as AnswerRefused}
-use Rattle.model.specs.Refusals.{askedOutOfRange, wrongRoom, Rule, refusal, rule₀, verdict}
+use Rattle.model.specs.declared.ReadingAnswer.the-variants.{PlanePoint as AnswerPoint, LinePlace as AnswerPlace, Refused as AnswerRefused}
+use Rattle.model.specs.Refusals.{Reason, askedOutOfRange, runFull, wrongRoom, Rule, number, refusal, rule₀, verdict}
 use Rattle.model.specs.Acceptance.{checked, crestRules, crestElements}
 use Rattle.model.specs.Judged.{judged}
 use Rattle.model.specs.Records.{byteAt, recordBytes, countOf}
@@ -125,28 +126,30 @@ any-stake-out own target c s why e =
 
 -- ---- "any order of calls": what each call returns and leaves, on any bytes
 
-module _ (file : List ℕ) (r : Reading) (run : List ℕ) where
-  -- a reading is refused with 18 or 16, and nothing is changed; or it is counted, with what it came to
-  pub any-reading-call : (readingCall file r run ≡ (18, run)) ⊎ ((readingCall file r run ≡ (16, run))
-      ⊎ (readingCall file r run ≡ (code (paperOfReading (answerTo file r)), runBytes (counted (shownOf (answerTo file r)) (runAt run)) run)))
-  any-reading-call = go (ℕ-discrete (length run) 24)
-    where
-      full : length run ≡ 24 → (b : Bool) → isFull (runAt run) ≡ b → (readingCall file r run ≡ (18, run)) ⊎ ((readingCall file r run ≡ (16, run))
-          ⊎ (readingCall file r run ≡ (code (paperOfReading (answerTo file r)), runBytes (counted (shownOf (answerTo file r)) (runAt run)) run)))
-      full h true e = inr (inl (reading-16 file r run h e))
-      full h false e = inr (inr (reading-counted file r run h e))
+-- "A reading is counted unless its run's bytes get 18, or answered + refused is already 65,535 or more; then it is refused with 16. Either changes nothing."
+pub data ReadingEnds (file : List ℕ) (r : Reading) (run : List ℕ) : Type 0 where
+  no-run : length run ≢ 24 → readingCall file r run ≡ (18, run) → ReadingEnds file r run
+  run-full : length run ≡ 24 → isFull (runAt run) ≡ true → readingCall file r run ≡ (16, run) → ReadingEnds file r run
+  counts : length run ≡ 24 → isFull (runAt run) ≡ false
+      → readingCall file r run ≡ (code (paperOfReading (answerTo file r)), runBytes (counted (shownOf (answerTo file r)) (runAt run)) run)
+      → ReadingEnds file r run
 
-      go : Dec (length run ≡ 24) → (readingCall file r run ≡ (18, run)) ⊎ ((readingCall file r run ≡ (16, run))
-          ⊎ (readingCall file r run ≡ (code (paperOfReading (answerTo file r)), runBytes (counted (shownOf (answerTo file r)) (runAt run)) run)))
-      go (yes h) = full h (isFull (runAt run)) refl
-      go (no h) = inl (reading-18 file r run h)
+pub any-reading-call : (file : List ℕ) (r : Reading) (run : List ℕ) → ReadingEnds file r run
+any-reading-call file r run = go (ℕ-discrete (length run) 24) (isFull (runAt run)) refl
+  where
+    go : Dec (length run ≡ 24) → (b : Bool) → isFull (runAt run) ≡ b → ReadingEnds file r run
+    go (no h) b e = no-run h (reading-18 file r run h)
+    go (yes h) true e = run-full h e (reading-16 file r run h e)
+    go (yes h) false e = counts h e (reading-counted file r run h e)
 
-pub any-acknowledge-call : (run : List ℕ) → (acknowledgeCall run ≡ (18, run)) ⊎ (acknowledgeCall run ≡ (0, runBytes (acknowledged (runAt run)) run))
+-- "Acknowledging zeroes only the first number and reading.", of a run's bytes; others get 18
+pub any-acknowledge-call : (run : List ℕ) →
+    ((length run ≢ 24) × (acknowledgeCall run ≡ (18, run))) ⊎ ((length run ≡ 24) × (acknowledgeCall run ≡ (0, runBytes (acknowledged (runAt run)) run)))
 any-acknowledge-call run = go (ℕ-discrete (length run) 24)
   where
-    go : Dec (length run ≡ 24) → (acknowledgeCall run ≡ (18, run)) ⊎ (acknowledgeCall run ≡ (0, runBytes (acknowledged (runAt run)) run))
-    go (yes h) = inr (acknowledge-0 run h)
-    go (no h) = inl (acknowledge-18 run h)
+    go : Dec (length run ≡ 24) → ((length run ≢ 24) × (acknowledgeCall run ≡ (18, run))) ⊎ ((length run ≡ 24) × (acknowledgeCall run ≡ (0, runBytes (acknowledged (runAt run)) run)))
+    go (yes h) = inr (h, acknowledge-0 run h)
+    go (no h) = inl (h, acknowledge-18 run h)
 
 -- ---- "end in an answer or a numbered refusal": "A C call returns the refusal number plus 256 times its place, or 0"
 
@@ -179,6 +182,38 @@ unfolding stakeOutCall
 any-stake-out-call own target c s room =
     let rules = rule₀ wrongRoom (eqb (length room) 8) ∷ moveRules own target c s in
     subst Returned (sym (move-code (verdict rules) own target c s)) (returned rules)
+
+-- the number of a refusal without a place
+number-returned : (why : Reason) → Returned (number why)
+unfolding refusal
+number-returned why = inr (refusal why 0, reason-numbered why, sym (add-zero (number why)))
+
+answer-returned : (file : List ℕ) (r : Reading) → Returned (code (paperOfReading (answerTo file r)))
+unfolding code paperOfReading
+answer-returned file r = go (answerTo file r) (any-reading file r)
+  where
+    go : (a : ReadingAnswer) → ((why : Refusal) → a ≡ AnswerRefused why → (1 ≤ why .number) × (why .number ≤ 15)) → Returned (code (paperOfReading a))
+    go (AnswerPoint station offset residual visits) h = inl refl
+    go (AnswerPlace x y) h = inl refl
+    go (AnswerRefused why) h = let n = h why refl in inr (why, (n .0, omega arith), refl)
+
+-- of any bytes lent as a run
+pub any-reading-call-returns : (file : List ℕ) (r : Reading) (run : List ℕ) → Returned (readingCall file r run .0)
+unfolding number
+any-reading-call-returns file r run = go (any-reading-call file r run)
+  where
+    go : ReadingEnds file r run → Returned (readingCall file r run .0)
+    go (no-run h e) = rw e (number-returned wrongRoom)
+    go (run-full h f e) = rw e (number-returned runFull)
+    go (counts h f e) = rw e (answer-returned file r)
+
+pub any-acknowledge-call-returns : (run : List ℕ) → Returned (acknowledgeCall run .0)
+unfolding number
+any-acknowledge-call-returns run = go (any-acknowledge-call run)
+  where
+    go : ((length run ≢ 24) × (acknowledgeCall run ≡ (18, run))) ⊎ ((length run ≡ 24) × (acknowledgeCall run ≡ (0, runBytes (acknowledged (runAt run)) run))) → Returned (acknowledgeCall run .0)
+    go (inl (h, e)) = rw e (number-returned wrongRoom)
+    go (inr (h, e)) = rw e (inl refl)
 
 -- ---- and 0 exactly where nothing is refused
 
@@ -223,6 +258,32 @@ stake-out-returns-0 own target c s room = (
 pub refused-reading-returns : (file : List ℕ) (r : Reading) (why : Refusal) → answerTo file r ≡ AnswerRefused why → code (paperOfReading (answerTo file r)) ≡ 0 → ⊥
 unfolding code paperOfReading
 refused-reading-returns file r why e z = omega (arith, any-reading file r why e .0, sym (ap (λ (a : ReadingAnswer). code (paperOfReading a)) e) ∙ z)
+
+-- where 24 bytes are lent, the run is not full and the reading is answered
+pub reading-returns-0 : (file : List ℕ) (r : Reading) (run : List ℕ) →
+    (readingCall file r run .0 ≡ 0) ↔ ((length run ≡ 24) × (isFull (runAt run) ≡ false) × ((why : Refusal) → answerTo file r ≢ AnswerRefused why))
+unfolding code paperOfReading
+reading-returns-0 file r run = (
+  go (any-reading-call file r run),
+  λ x. ap (λ o. o .0) (reading-counted file r run (x .0) (x .1)) ∙ answered (answerTo file r) (x .2),
+)
+  where
+    answered : (a : ReadingAnswer) → ((why : Refusal) → a ≢ AnswerRefused why) → code (paperOfReading a) ≡ 0
+    answered (AnswerPoint station offset residual visits) h = refl
+    answered (AnswerPlace x y) h = refl
+    answered (AnswerRefused why) h = absurd (h why refl)
+
+    go : ReadingEnds file r run → readingCall file r run .0 ≡ 0 → (length run ≡ 24) × (isFull (runAt run) ≡ false) × ((why : Refusal) → answerTo file r ≢ AnswerRefused why)
+    go (no-run h e) z = absurd (omega (arith, ap (λ o. o .0) e))
+    go (run-full h f e) z = absurd (omega (arith, ap (λ o. o .0) e))
+    go (counts h f e) z = (h, f, λ why a. refused-reading-returns file r why a (sym (ap (λ o. o .0) e) ∙ z))
+
+pub acknowledge-returns-0 : (run : List ℕ) → (acknowledgeCall run .0 ≡ 0) ↔ (length run ≡ 24)
+acknowledge-returns-0 run = (go (any-acknowledge-call run), λ h. ap (λ o. o .0) (acknowledge-0 run h))
+  where
+    go : ((length run ≢ 24) × (acknowledgeCall run ≡ (18, run))) ⊎ ((length run ≡ 24) × (acknowledgeCall run ≡ (0, runBytes (acknowledged (runAt run)) run))) → acknowledgeCall run .0 ≡ 0 → length run ≡ 24
+    go (inl (h, e)) z = absurd (omega (arith, ap (λ o. o .0) e))
+    go (inr (h, e)) z = h
 
 -- ---- "a refusal carries no numbers"
 

@@ -14,6 +14,8 @@ pub mod ElementBytes
 pub mod SingleByte
 -- Orders of refusals, and the answers that they come to.
 pub mod Orders
+pub mod Places
+pub mod RecordRefusals
 -- The three demands.
 pub mod Demand1
 pub mod Demand2

@@ -1,11 +1,11 @@
--- Document 01, "Refusal numbers": "given exactly when". Here stand 7 for a heading, 11 and 15 to 18. Of a crest's bytes, 1 to 9, it is `any-bytes` of demand 1; 10 and 12 to
--- 14 are with demand 3. Each is a rule that alone gives its number in its order, so that the number is given exactly when this rule is the first that fails.
-use Prim.Native.Nat.{ℕ, _*_, _≤_, _<_}
+-- Document 01, "Refusal numbers": "given exactly when". Here stand 1 to 9 with their places, 7 for a heading, 11 and 15 to 18; 10 and 12 to 14 are with demand 3.
+-- A number is given exactly when a rule that gives it is the first that fails in its order.
+use Prim.Native.Nat.{ℕ, _+_, _*_, _≤_, _<_}
 use mathlib.Core.Bool.{Bool, true, false, _&&_, and-eq-true-iff}
-use mathlib.Core.List.{List, [], _∷_, _++_}
+use mathlib.Core.List.{List, [], _∷_, _++_, append-assoc, append-nil}
 use mathlib.Core.Logic.{_≢_, _⊎_, ⊎-map, _↔_, Iff·rfl, Iff·trans, Iff·and}
 use mathlib.Core.Path.{_≡_, refl, sym, _∙_, ap, ap₂}
-use native.Mathlib.Nat.{add-zero}
+use native.Mathlib.Nat.{add-zero, zero-add}
 use native.Mathlib.Omega.{arith}
 use lib.Dec.{leb, ltb, eqb}
 use lib.IntN.{ℤ, natAbs}
@@ -22,9 +22,9 @@ use Rattle.model.specs.declared.Move.the-variants.{Refused as MoveRefused}
 use Rattle.model.specs.declared.Reading.{Reading}
 use Rattle.model.specs.declared.ReadingAnswer.the-variants.{Refused as AnswerRefused}
 use Rattle.model.specs.declared.Run.{Run}
-use Rattle.model.specs.Refusals.{Reason, notUnit, outsideFrame, askedOutOfRange, runFull, recordCount, wrongRoom, Rule, number, refusal, rule₀, verdict}
-use Rattle.model.specs.Records.{recordBytes, countOf}
-use Rattle.model.specs.Acceptance.{inFrame, isUnit, checked, crestElements}
+use Rattle.model.specs.Refusals.{Reason, byteCount, checksum, blockField, damagedRecord, laterKind, fieldOutOfRange, notUnit, gap, kink, outsideFrame, askedOutOfRange, runFull, recordCount, wrongRoom, Rule, number, refusal, rule, rule₀, verdict, forEach}
+use Rattle.model.specs.Records.{blockCount, blockOf, recordBytes, countOf, recordOf}
+use Rattle.model.specs.Acceptance.{inFrame, isUnit, recordRules, joinRules, elementAt, recordsRules, lengthFits, sumsAgree, fieldsFit, sumRules, fieldRules, blocksRules, crestRules, checked, crestElements}
 use Rattle.model.specs.Stations.{isStation}
 use Rattle.model.specs.Writer.{countFits, blocksNeeded, writerRules, writerOutcome}
 use Rattle.model.specs.Answers.{code, paperOfOutcome, readerOutcome, placed, located, inverseAt, lineRules, inverseAfter, inverse, moveRules, stakeOut}
@@ -32,14 +32,132 @@ use Rattle.model.specs.Readings.{answerTo}
 use Rattle.model.specs.Run.{shownOf, isFull, runAt, noted, readingCall, acknowledgeCall, stakeOutCall}
 use Rattle.model.proofs.Verdict.{reason-numbered, none, more, done→all, all→done}
 use Rattle.model.proofs.RuleNumbers.{records-up-to-9}
+use Rattle.crestfile.proofs.ForEach.{one-holds, holds-one, each→all, all→each}
 use Rattle.crestfile.proofs.WriterRules.{rulesButRoom}
-use Rattle.walk_laws.proofs.Reasons.{first-holds, rest-hold, empty, other, lacks-++, lacks-above, given-exactly}
+use Rattle.walk_laws.proofs.Reasons.{Lacks, first-holds, rest-hold, empty, other, lacks-++, lacks-above, given-exactly}
 use Rattle.walk_laws.proofs.Outcomes.{file-outside-frame}
 use Rattle.readings.proofs.Refused.{answer-number}
 use Rattle.readings.proofs.Calls.{reading-18, reading-16, reading-counted, answer-not-the-runs, acknowledge-18, acknowledge-0}
 use Rattle.answers.proofs.Noting.{noted-full, noted-counted}
 use Rattle.demands.proofs.Orders.{and-fails, placed-refused, inverse-refused, move-refused, two-rules, first-given, given-after-crest, next-after-crest}
+use Rattle.demands.proofs.Places.{lacks-rule, lacks-forEach, nowhere, here, given-at-place}
+use Rattle.demands.proofs.RecordRefusals.{RecordGives4, RecordGives5, RecordGives6, RecordGives7, JoinGives8, JoinGives9, record-gives-4, record-gives-5, record-gives-6, record-gives-7, join-gives-8, join-gives-9, RecordReached, JoinReached, records-lack, given-at-record, given-at-join}
 use Rattle.demands.proofs.Demand1.{Numbered, refused-numbered, move-code}
+
+-- ---- 1 to 3 of a file's own bytes: "1; 2 for all blocks; 3 for all"
+
+one-done : (why : Reason) (place : ℕ) {b : Bool} → (verdict (rule why place b ∷ []) ≡ Done) ↔ (b ≡ true)
+one-done why place = ((λ e. holds-one (done→all _ e)), (λ h. all→done (one-holds h)))
+
+module _ (file : List ℕ) where
+  abbrev sums : List Rule
+  sums = forEach (sumRules file) (blockCount file) 0
+
+  abbrev fields : List Rule
+  fields = forEach (fieldRules file) (blockCount file) 0
+
+  abbrev records : List Rule
+  records = recordsRules (recordBytes file)
+
+  sums-lack : {n : ℕ} → 2 ≢ n → Lacks n sums
+  unfolding sumRules number
+  sums-lack h = lacks-forEach (λ k. lacks-rule checksum h empty) (blockCount file) 0
+
+  fields-lack : {n : ℕ} → 3 ≢ n → Lacks n fields
+  unfolding fieldRules number
+  fields-lack h = lacks-forEach (λ k. lacks-rule blockField h empty) (blockCount file) 0
+
+  blocks-lack : {n : ℕ} → 4 ≤ n → Lacks n (blocksRules file)
+  unfolding blocksRules number
+  blocks-lack h = lacks-rule byteCount (omega arith) (lacks-++ (sums-lack (omega arith)) (fields-lack (omega arith)))
+
+  -- "byte count not 512, 1024, 1536 or 2048"
+  pub check-refused-1 : (checked file ≡ Refused (refusal byteCount 0)) ↔ (lengthFits (length file) ≡ false)
+  unfolding checked crestRules blocksRules number
+  check-refused-1 =
+      first-given (rule₀ byteCount (lengthFits (length file))) ((sums ++ fields) ++ records) (lacks-++ (lacks-++ (sums-lack (omega arith)) (fields-lack (omega arith))) (records-lack (recordBytes file) (omega arith)))
+
+  -- "a block's A or B is wrong", with "block for 2, 3"
+  pub check-refused-2 : (b : ℕ) → (checked file ≡ Refused (refusal checksum b)) ↔
+      ((lengthFits (length file) ≡ true) × (b < blockCount file) × ((k : ℕ) → k < b → sumsAgree (blockOf file k) ≡ true) × (sumsAgree (blockOf file b) ≡ false))
+  unfolding checked crestRules blocksRules sumRules number refusal
+  check-refused-2 b =
+      let before = rule₀ byteCount (lengthFits (length file)) ∷ [] in
+      let w = refusal checksum b in
+      let given = given-at-place (sumRules file) (λ k. here refl nowhere) w before (fields ++ records) (blockCount file) (lacks-rule byteCount (omega arith) empty) (lacks-++ (fields-lack (omega arith)) (records-lack (recordBytes file) (omega arith))) in
+      let one = first-given (rule checksum b (sumsAgree (blockOf file b))) [] empty in
+      Iff·trans (rw (← append-assoc sums fields records) at given) (
+        (λ x. (one-done byteCount 0 .0 (x .0), x .1, (λ k h. one-done checksum k .0 (x .2 k h)), one .0 (x .3))),
+        (λ x. (one-done byteCount 0 .1 (x .0), x .1, (λ k h. one-done checksum k .1 (x .2 k h)), one .1 (x .3))),
+      )
+
+  -- "block number, use count, edition, or a byte that must be zero outside used records"
+  pub check-refused-3 : (b : ℕ) → (checked file ≡ Refused (refusal blockField b)) ↔
+      ((lengthFits (length file) ≡ true) × ((k : ℕ) → k < blockCount file → sumsAgree (blockOf file k) ≡ true)
+      × (b < blockCount file) × ((k : ℕ) → k < b → fieldsFit (blockCount file) k (blockOf file k) ≡ true) × (fieldsFit (blockCount file) b (blockOf file b) ≡ false))
+  unfolding checked crestRules blocksRules sumRules fieldRules number refusal
+  check-refused-3 b =
+      let before = rule₀ byteCount (lengthFits (length file)) ∷ sums in
+      let w = refusal blockField b in
+      let given = given-at-place (fieldRules file) (λ k. here refl nowhere) w before records (blockCount file) (lacks-rule byteCount (omega arith) (sums-lack (omega arith))) (records-lack (recordBytes file) (omega arith)) in
+      let one = first-given (rule blockField b (fieldsFit (blockCount file) b (blockOf file b))) [] empty in
+      Iff·trans (rw (← append-assoc sums fields records) at given) (
+        (λ x.
+            let held = done→all before (x .0) in
+            (first-holds held, (λ k h. holds-one (rw zero-add at (all→each (sumRules file) (blockCount file) 0 (rest-hold held) k h))), x .1, (λ k h. one-done blockField k .0 (x .2 k h)), one .0 (x .3))),
+        (λ x. (
+          all→done (more (x .0) (each→all (sumRules file) (blockCount file) 0 (λ k h. rw zero-add (one-holds (x .1 k h))))),
+          x .2,
+          (λ k h. one-done blockField k .1 (x .3 k h)),
+          one .1 (x .4),
+        )),
+      )
+
+-- ---- 4 to 9 of a file's own bytes, and of the writer's records
+
+-- "record, counted from 0 over all blocks as every record number is, for 4 to 7 in records; earlier record for 8, 9": of a file after 1 to 3
+module _ (file : List ℕ) (r : ℕ) where
+  check-at-record : (why : Reason) {P : Type 0} → 4 ≤ number why → number why ≤ 7 → (verdict (recordRules (recordOf (recordBytes file) r) r) ≡ Refused (refusal why r)) ↔ P →
+      (checked file ≡ Refused (refusal why r)) ↔ (RecordReached (blocksRules file) (recordBytes file) r × P)
+  unfolding checked crestRules
+  check-at-record why low high gives = rw append-nil at (given-at-record (blocksRules file) [] (recordBytes file) why r (blocks-lack file low) empty high gives)
+
+  check-at-join : (why : Reason) {P : Type 0} → 8 ≤ number why → (verdict (joinRules (elementAt (recordBytes file) r) (elementAt (recordBytes file) (r + 1)) r) ≡ Refused (refusal why r)) ↔ P →
+      (checked file ≡ Refused (refusal why r)) ↔ (JoinReached (blocksRules file) (recordBytes file) r × P)
+  unfolding checked crestRules
+  check-at-join why high gives = rw append-nil at (given-at-join (blocksRules file) [] (recordBytes file) why r (blocks-lack file (omega arith)) empty high gives)
+
+  -- "damaged kind, or a nonzero byte 1 to 3 or 28 to 31 of a used record"
+  pub check-refused-4 : (checked file ≡ Refused (refusal damagedRecord r)) ↔ (RecordReached (blocksRules file) (recordBytes file) r × RecordGives4 (recordOf (recordBytes file) r))
+  unfolding number
+  check-refused-4 = check-at-record damagedRecord (omega arith) (omega arith) (record-gives-4 (recordOf (recordBytes file) r) r)
+
+  -- "kind 5 to 15"
+  pub check-refused-5 : (checked file ≡ Refused (refusal laterKind r)) ↔ (RecordReached (blocksRules file) (recordBytes file) r × RecordGives5 (recordOf (recordBytes file) r))
+  unfolding number
+  check-refused-5 = check-at-record laterKind (omega arith) (omega arith) (record-gives-5 (recordOf (recordBytes file) r) r)
+
+  -- "length, radius, x or y out of range"
+  pub check-refused-6 : (checked file ≡ Refused (refusal fieldOutOfRange r)) ↔ (RecordReached (blocksRules file) (recordBytes file) r × RecordGives6 (recordOf (recordBytes file) r))
+  unfolding number
+  check-refused-6 = check-at-record fieldOutOfRange (omega arith) (omega arith) (record-gives-6 (recordOf (recordBytes file) r) r)
+
+  -- "direction not a unit (record ..)"
+  pub check-refused-7 : (checked file ≡ Refused (refusal notUnit r)) ↔ (RecordReached (blocksRules file) (recordBytes file) r × RecordGives7 (recordOf (recordBytes file) r))
+  unfolding number
+  check-refused-7 = check-at-record notUnit (omega arith) (omega arith) (record-gives-7 (recordOf (recordBytes file) r) r)
+
+  -- "gap .. at a join"
+  pub check-refused-8 : (checked file ≡ Refused (refusal gap r))
+      ↔ (JoinReached (blocksRules file) (recordBytes file) r × JoinGives8 (elementAt (recordBytes file) r) (elementAt (recordBytes file) (r + 1)))
+  unfolding number
+  check-refused-8 = check-at-join gap (omega arith) (join-gives-8 _ _ r)
+
+  -- "kink at a join"
+  pub check-refused-9 : (checked file ≡ Refused (refusal kink r))
+      ↔ (JoinReached (blocksRules file) (recordBytes file) r × JoinGives9 (elementAt (recordBytes file) r) (elementAt (recordBytes file) (r + 1)))
+  unfolding number
+  check-refused-9 = check-at-join kink (omega arith) (join-gives-9 _ _ r)
 
 -- ---- 11 and 15 on a crest, after its own
 
@@ -138,6 +256,53 @@ module _ (records : List ℕ) (room : ℕ) where
       Iff·trans
       (given-exactly (rule₀ wrongRoom (leb needed room)) [] empty (rulesButRoom records) (other (omega arith) (lacks-above (omega arith) (records-up-to-9 records))))
       (Iff·and (all→done, done→all (rulesButRoom records)) (leb-false needed room, lt-leb needed room))
+
+-- "The writer gives 17, 4 to 9, 18": after 17 its records are refused as a file's are
+module _ (records : List ℕ) (room r : ℕ) where
+  abbrev counts : List Rule
+  counts = rule₀ recordCount (countFits (length records)) ∷ []
+
+  count-lacks : {n : ℕ} → n ≤ 9 → Lacks n counts
+  unfolding number
+  count-lacks h = lacks-rule recordCount (omega arith) empty
+
+  room-lacks : {n : ℕ} → n ≤ 9 → Lacks n (rule₀ wrongRoom (leb (512 * blocksNeeded records) room) ∷ [])
+  unfolding number
+  room-lacks h = lacks-rule wrongRoom (omega arith) empty
+
+  write-at-record : (why : Reason) {P : Type 0} → number why ≤ 7 → (verdict (recordRules (recordOf records r) r) ≡ Refused (refusal why r)) ↔ P →
+      (writerOutcome records room ≡ Refused (refusal why r)) ↔ (RecordReached counts records r × P)
+  unfolding writerOutcome writerRules
+  write-at-record why high gives = given-at-record counts _ records why r (count-lacks (omega arith)) (room-lacks (omega arith)) high gives
+
+  write-at-join : (why : Reason) {P : Type 0} → 8 ≤ number why → number why ≤ 9 → (verdict (joinRules (elementAt records r) (elementAt records (r + 1)) r) ≡ Refused (refusal why r)) ↔ P →
+      (writerOutcome records room ≡ Refused (refusal why r)) ↔ (JoinReached counts records r × P)
+  unfolding writerOutcome writerRules
+  write-at-join why low high gives = given-at-join counts _ records why r (count-lacks high) (room-lacks high) low gives
+
+  pub write-refused-4 : (writerOutcome records room ≡ Refused (refusal damagedRecord r)) ↔ (RecordReached counts records r × RecordGives4 (recordOf records r))
+  unfolding number
+  write-refused-4 = write-at-record damagedRecord (omega arith) (record-gives-4 (recordOf records r) r)
+
+  pub write-refused-5 : (writerOutcome records room ≡ Refused (refusal laterKind r)) ↔ (RecordReached counts records r × RecordGives5 (recordOf records r))
+  unfolding number
+  write-refused-5 = write-at-record laterKind (omega arith) (record-gives-5 (recordOf records r) r)
+
+  pub write-refused-6 : (writerOutcome records room ≡ Refused (refusal fieldOutOfRange r)) ↔ (RecordReached counts records r × RecordGives6 (recordOf records r))
+  unfolding number
+  write-refused-6 = write-at-record fieldOutOfRange (omega arith) (record-gives-6 (recordOf records r) r)
+
+  pub write-refused-7 : (writerOutcome records room ≡ Refused (refusal notUnit r)) ↔ (RecordReached counts records r × RecordGives7 (recordOf records r))
+  unfolding number
+  write-refused-7 = write-at-record notUnit (omega arith) (record-gives-7 (recordOf records r) r)
+
+  pub write-refused-8 : (writerOutcome records room ≡ Refused (refusal gap r)) ↔ (JoinReached counts records r × JoinGives8 (elementAt records r) (elementAt records (r + 1)))
+  unfolding number
+  write-refused-8 = write-at-join gap (omega arith) (omega arith) (join-gives-8 _ _ r)
+
+  pub write-refused-9 : (writerOutcome records room ≡ Refused (refusal kink r)) ↔ (JoinReached counts records r × JoinGives9 (elementAt records r) (elementAt records (r + 1)))
+  unfolding number
+  write-refused-9 = write-at-join kink (omega arith) (omega arith) (join-gives-9 _ _ r)
 
 -- ---- 18 and 16 of a run
 

@@ -35,14 +35,18 @@ use Rattle.model.specs.Writer.{writerRules, writerOutcome, roomAfter, written}
 use Rattle.model.specs.Answers.{code, paperOfOutcome, paperOfPlaced, paperOfLocated, paperOfInverse, paperOfMove, readerOutcome, spanIf, readerSpan, readerPart, placed, pointRules, locatedAfter, located, lineRules, inverseAfter, inverse, moveOf, moveIf, moveRules, stakeOut}
 use Rattle.model.specs.Readings.{answerTo, answerAfter, numberRules, wholeOf, valueOf, paperOfReading, zeroFloat, displayOf}
 use Rattle.model.specs.Run.{shownOf, isFull, runAt, runBytes, counted, acknowledged, readingCall, acknowledgeCall, checkCall, writeCall, moveBytes, stakeOutCall}
-use Rattle.model.specs.Histories.{Call, read, acknowledge, bytesAfterCalls, freshBytes, demanded}
-use Rattle.model.proofs.Verdict.{reason-numbered, AllHold, more, Cause, crest-outcome, refused→first, done→all, all→done}
+use Rattle.model.specs.Histories.{Call, read, acknowledge, afterCalls, bytesAfterCalls, freshBytes, demanded}
+use Rattle.model.proofs.Verdict.{reason-numbered, AllHold, more, Cause, crest-outcome, refused→first, refused-before, done→all, all→done}
 use Rattle.readings.proofs.Refused.{answer-number, Zeros, refusal-shows-zeros}
 use Rattle.readings.proofs.Calls.{reading-18, reading-16, reading-counted, not-counted-unchanged, acknowledge-18, acknowledge-0}
 use Rattle.walk_laws.proofs.Outcomes.{located-refused}
+use Rattle.walk_laws.proofs.Crest.{located-refused-crest}
+use Rattle.blocks.proofs.Bytes.{AllBytes}
 use Rattle.answers.proofs.Storable.{answer-values}
+use Rattle.answers.proofs.Crest.{answer-refused}
 use Rattle.demands.proofs.Orders.{placed-refused, inverse-refused, move-refused, point-refused, place-refused}
-use Rattle.demands.proofs.Histories.{ReadingsFit, bytes-show-demanded, fresh-bytes-keep}
+use Rattle.demands.proofs.RunBytes.{bytes-held}
+use Rattle.demands.proofs.Histories.{ReadingsFit, bytes-follow-run, bytes-show-demanded, history-keeps, fresh-bytes-keep}
 use Rattle.demands.proofs.Lent.{Lending, Within, roomAfterAll, onRun, lent-history}
 
 -- ---- "Any bytes .. end in an answer or a numbered refusal"
@@ -123,6 +127,32 @@ unfolding stakeOut
 any-stake-out own target c s why e =
     let rules = moveRules own target c s in
     refused-numbered rules why (move-refused (verdict rules) own target c s why .0 e)
+
+-- ---- "Every entry checks the alignment it is given."
+
+-- what refuses a file refuses every question about it, with the same number and place
+module _ (file : List ℕ) (why : Refusal) (refused : checked file ≡ Refused why) where
+  refused-first : (rs : List Rule) → verdict (crestRules file ++ rs) ≡ Refused why
+  unfolding checked
+  refused-first rs = refused-before (crestRules file) rs refused
+
+  pub refused-file-record : (r : ℕ) → readerOutcome file r ≡ Refused why
+  unfolding readerOutcome
+  refused-file-record r = refused-first _
+
+  pub refused-file-position : (s : ℤ) → placed file s ≡ PlacedRefused why
+  unfolding placed
+  refused-file-position s = placed-refused _ _ _ why .1 (refused-first _)
+
+  pub refused-file-point : (p : Point) → located file p ≡ LocatedRefused why
+  refused-file-point p = located-refused-crest file p why refused
+
+  pub refused-file-place : (s w : ℤ) → inverse file s w ≡ InverseRefused why
+  unfolding inverse inverseAfter
+  refused-file-place s w = inverse-refused _ _ s w why .1 (refused-first _)
+
+  pub refused-file-reading : (r : Reading) → answerTo file r ≡ AnswerRefused why
+  refused-file-reading r = sym (answer-refused file r refused)
 
 -- ---- "any order of calls": what each call returns and leaves, on any bytes
 
@@ -343,6 +373,14 @@ fresh-bytes-show-demanded cs = bytes-show-demanded cs (every-fits cs)
 -- and its field of zero stays zero
 pub fresh-zero-stays : (cs : List Call) → (byteAt (bytesAfterCalls cs freshBytes) 10 ≡ 0) × (byteAt (bytesAfterCalls cs freshBytes) 11 ≡ 0)
 fresh-zero-stays cs = let k = fresh-bytes-keep cs in (k .1, k .2)
+
+-- "other bytes are taken as the state they spell, by the same rules": after every history of calls any 24 bytes spell the run that the calls make by value of the run
+-- that they spelled at first, and bytes 10 and 11 are as they came
+pub spelled-run-goes-on : (cs : List Call) (run : List ℕ) → length run ≡ 24 → AllBytes run → (runAt (bytesAfterCalls cs run) ≡ afterCalls cs (runAt run))
+    × (length (bytesAfterCalls cs run) ≡ 24) × (byteAt (bytesAfterCalls cs run) 10 ≡ byteAt run 10) × (byteAt (bytesAfterCalls cs run) 11 ≡ byteAt run 11)
+spelled-run-goes-on cs run long b =
+    let k = history-keeps cs run in
+    (bytes-follow-run cs run long (bytes-held run b) (every-fits cs), k .same-length ∙ long, k .tenth, k .eleventh)
 
 -- The same where the run lies at the front of a longer room, of which each call is lent any number of bytes: those lent other than 24 leave no trace.
 module _ (cs : List Lending) (rest : List ℕ) (within : Within (length (freshBytes ++ rest)) cs) where

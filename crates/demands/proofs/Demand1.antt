@@ -45,8 +45,7 @@ use Rattle.blocks.proofs.Bytes.{AllBytes}
 use Rattle.answers.proofs.Storable.{answer-values}
 use Rattle.answers.proofs.Crest.{answer-refused}
 use Rattle.demands.proofs.Orders.{placed-refused, inverse-refused, move-refused, point-refused, place-refused}
-use Rattle.demands.proofs.RunBytes.{bytes-held}
-use Rattle.demands.proofs.Histories.{ReadingsFit, bytes-follow-run, bytes-show-demanded, history-keeps, fresh-bytes-keep}
+use Rattle.demands.proofs.Histories.{ReadingsFit, bytes-spelled, bytes-follow-run, bytes-show-run, bytes-show-demanded, history-keeps, fresh-bytes-keep}
 use Rattle.demands.proofs.Lent.{Lending, Within, roomAfterAll, onRun, lent-history}
 
 -- ---- "Any bytes .. end in an answer or a numbered refusal"
@@ -374,13 +373,18 @@ fresh-bytes-show-demanded cs = bytes-show-demanded cs (every-fits cs)
 pub fresh-zero-stays : (cs : List Call) → (byteAt (bytesAfterCalls cs freshBytes) 10 ≡ 0) × (byteAt (bytesAfterCalls cs freshBytes) 11 ≡ 0)
 fresh-zero-stays cs = let k = fresh-bytes-keep cs in (k .1, k .2)
 
--- "other bytes are taken as the state they spell, by the same rules": after every history of calls any 24 bytes spell the run that the calls make by value of the run
--- that they spelled at first, and bytes 10 and 11 are as they came
-pub spelled-run-goes-on : (cs : List Call) (run : List ℕ) → length run ≡ 24 → AllBytes run → (runAt (bytesAfterCalls cs run) ≡ afterCalls cs (runAt run))
-    × (length (bytesAfterCalls cs run) ≡ 24) × (byteAt (bytesAfterCalls cs run) 10 ≡ byteAt run 10) × (byteAt (bytesAfterCalls cs run) 11 ≡ byteAt run 11)
-spelled-run-goes-on cs run long b =
-    let k = history-keeps cs run in
-    (bytes-follow-run cs run long (bytes-held run b) (every-fits cs), k .same-length ∙ long, k .tenth, k .eleventh)
+-- "other bytes are taken as the state they spell, by the same rules": after every history of calls any 24 bytes hold the run that the calls make by value of the run
+-- that they spelled at first
+module _ (cs : List Call) (run : List ℕ) (long : length run ≡ 24) (b : AllBytes run) where
+  pub spelled-bytes-go-on : bytesAfterCalls cs run ≡ runBytes (afterCalls cs (runAt run)) run
+  spelled-bytes-go-on = bytes-follow-run cs run (bytes-spelled run long b) (every-fits cs) .written
+
+  pub spelled-run-goes-on : runAt (bytesAfterCalls cs run) ≡ afterCalls cs (runAt run)
+  spelled-run-goes-on = bytes-show-run cs run (bytes-spelled run long b) (every-fits cs)
+
+-- "(the zero is neither read nor changed)": bytes 10 and 11 of any bytes are as they came
+pub zero-stays : (cs : List Call) (run : List ℕ) → (byteAt (bytesAfterCalls cs run) 10 ≡ byteAt run 10) × (byteAt (bytesAfterCalls cs run) 11 ≡ byteAt run 11)
+zero-stays cs run = let k = history-keeps cs run in (k .tenth, k .eleventh)
 
 -- The same where the run lies at the front of a longer room, of which each call is lent any number of bytes: those lent other than 24 leave no trace.
 module _ (cs : List Lending) (rest : List ℕ) (within : Within (length (freshBytes ++ rest)) cs) where

@@ -22,7 +22,7 @@ append-bytes : (p : List ℕ) {q : List ℕ} → AllBytes p → AllBytes q → A
 append-bytes [] b c = c
 append-bytes (a ∷ p) b c = more-bytes (b .below 0) (append-bytes p (record { below = λ i. b .below (suc i) }) c)
 
-zeros-bytes : (n : ℕ) → AllBytes (replicate n 0)
+pub zeros-bytes : (n : ℕ) → AllBytes (replicate n 0)
 zeros-bytes zero = none-bytes
 zeros-bytes (suc n) = more-bytes (omega arith) (zeros-bytes n)
 

@@ -172,11 +172,13 @@ any-reading-call file r run = go (ℕ-discrete (length run) 24) (isFull (runAt r
     go (yes h) false e = counts h e (reading-counted file r run h e)
 
 -- "Acknowledging zeroes only the first number and reading.", of a run's bytes; others get 18
-pub any-acknowledge-call : (run : List ℕ) →
-    ((length run ≢ 24) × (acknowledgeCall run ≡ (18, run))) ⊎ ((length run ≡ 24) × (acknowledgeCall run ≡ (0, runBytes (acknowledged (runAt run)) run)))
+abbrev pub AcknowledgeEnds : List ℕ → Type 0
+AcknowledgeEnds run = ((length run ≢ 24) × (acknowledgeCall run ≡ (18, run))) ⊎ ((length run ≡ 24) × (acknowledgeCall run ≡ (0, runBytes (acknowledged (runAt run)) run)))
+
+pub any-acknowledge-call : (run : List ℕ) → AcknowledgeEnds run
 any-acknowledge-call run = go (ℕ-discrete (length run) 24)
   where
-    go : Dec (length run ≡ 24) → ((length run ≢ 24) × (acknowledgeCall run ≡ (18, run))) ⊎ ((length run ≡ 24) × (acknowledgeCall run ≡ (0, runBytes (acknowledged (runAt run)) run)))
+    go : Dec (length run ≡ 24) → AcknowledgeEnds run
     go (yes h) = inr (h, acknowledge-0 run h)
     go (no h) = inl (h, acknowledge-18 run h)
 
@@ -240,7 +242,7 @@ pub any-acknowledge-call-returns : (run : List ℕ) → Returned (acknowledgeCal
 unfolding number
 any-acknowledge-call-returns run = go (any-acknowledge-call run)
   where
-    go : ((length run ≢ 24) × (acknowledgeCall run ≡ (18, run))) ⊎ ((length run ≡ 24) × (acknowledgeCall run ≡ (0, runBytes (acknowledged (runAt run)) run))) → Returned (acknowledgeCall run .0)
+    go : AcknowledgeEnds run → Returned (acknowledgeCall run .0)
     go (inl (h, e)) = rw e (number-returned wrongRoom)
     go (inr (h, e)) = rw e (inl refl)
 
@@ -310,7 +312,7 @@ reading-returns-0 file r run = (
 pub acknowledge-returns-0 : (run : List ℕ) → (acknowledgeCall run .0 ≡ 0) ↔ (length run ≡ 24)
 acknowledge-returns-0 run = (go (any-acknowledge-call run), λ h. ap (λ o. o .0) (acknowledge-0 run h))
   where
-    go : ((length run ≢ 24) × (acknowledgeCall run ≡ (18, run))) ⊎ ((length run ≡ 24) × (acknowledgeCall run ≡ (0, runBytes (acknowledged (runAt run)) run))) → acknowledgeCall run .0 ≡ 0 → length run ≡ 24
+    go : AcknowledgeEnds run → acknowledgeCall run .0 ≡ 0 → length run ≡ 24
     go (inl (h, e)) z = absurd (omega (arith, ap (λ o. o .0) e))
     go (inr (h, e)) z = h
 

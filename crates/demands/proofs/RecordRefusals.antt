@@ -16,7 +16,7 @@ use Rattle.model.specs.Kinds.{decide}
 use Rattle.model.specs.Records.{byteAt, countOf, recordOf}
 use Rattle.model.specs.Refusals.{Reason, damagedRecord, laterKind, fieldOutOfRange, notUnit, gap, kink, Rule, rule, number, refusal, verdict, forEach}
 use Rattle.model.specs.Acceptance.{isDamaged, isLater, elementOf, reservedZero, rangesGood, isUnit, recordRules, meets, continues, joinRules, elementAt, recordsRules}
-use Rattle.model.proofs.Verdict.{none, more, done→all, all→done}
+use Rattle.model.proofs.Verdict.{AllHold, none, more, done→all, all→done}
 use Rattle.crestfile.proofs.ForEach.{all-append, append-all, each→all, all→each}
 use Rattle.walk_laws.proofs.Reasons.{Lacks, empty, other, lacks-++, first-holds, rest-hold, given-exactly}
 use Rattle.demands.proofs.Orders.{first-given}
@@ -87,13 +87,19 @@ module _ (this : List ℕ) (r : ℕ) where
         (λ e. (more (ap not (not-both (decide (byteAt this 0)) e)) none, ap not e)),
       )
 
+  known : {rs : List Rule} → AllHold (damaged ∷ later ∷ rs) ↔ (KindKnown this × AllHold rs)
+  known = (
+    (λ a. ((not-true _ (first-holds a), not-true _ (first-holds (rest-hold a))), rest-hold (rest-hold a))),
+    (λ x. more (ap not (x .0 .0)) (more (ap not (x .0 .1)) (x .1))),
+  )
+
   pub record-gives-6 : (verdict (recordRules this r) ≡ Refused (refusal fieldOutOfRange r)) ↔ RecordGives6 this
   unfolding recordRules number
   record-gives-6 =
       Iff·trans
       (given-exactly ranges (unit ∷ []) (other (omega arith) empty) (damaged ∷ later ∷ reserved ∷ []) (other (omega arith) (other (omega arith) (other (omega arith) empty)))) (
-        (λ x. ((not-true _ (first-holds (x .0)), not-true _ (first-holds (rest-hold (x .0)))), first-holds (rest-hold (rest-hold (x .0))), x .1)),
-        (λ x. (more (ap not (x .0 .0)) (more (ap not (x .0 .1)) (more (x .1) none)), x .2)),
+        (λ x. let (k, a) = known .0 (x .0) in (k, first-holds a, x .1)),
+        (λ x. (known .1 (x .0, more (x .1) none), x .2)),
       )
 
   pub record-gives-7 : (verdict (recordRules this r) ≡ Refused (refusal notUnit r)) ↔ RecordGives7 this
@@ -101,13 +107,8 @@ module _ (this : List ℕ) (r : ℕ) where
   record-gives-7 =
       Iff·trans
       (given-exactly unit [] empty (damaged ∷ later ∷ reserved ∷ ranges ∷ []) (other (omega arith) (other (omega arith) (other (omega arith) (other (omega arith) empty))))) (
-        (λ x. (
-          (not-true _ (first-holds (x .0)), not-true _ (first-holds (rest-hold (x .0)))),
-          first-holds (rest-hold (rest-hold (x .0))),
-          first-holds (rest-hold (rest-hold (rest-hold (x .0)))),
-          x .1,
-        )),
-        (λ x. (more (ap not (x .0 .0)) (more (ap not (x .0 .1)) (more (x .1) (more (x .2) none))), x .3)),
+        (λ x. let (k, a) = known .0 (x .0) in (k, first-holds a, first-holds (rest-hold a), x .1)),
+        (λ x. (known .1 (x .0, more (x .1) (more (x .2) none)), x .3)),
       )
 
 -- ---- one join

@@ -10,7 +10,7 @@ use native.Mathlib.Omega.{arith}
 use lib.Dec.{leb, ltb, eqb}
 use lib.IntN.{ℤ, natAbs}
 use lib.ListN.{length}
-use borrow.Author.Tests.{leb-true, leb-false, le-leb, lt-leb, ltb-false, le-ltb, eqb-true, eqb-false, ne-eqb}
+use borrow.Author.Tests.{leb-true, leb-false, le-leb, lt-leb, ltb-false, le-ltb, eqb-false, ne-eqb}
 use Rattle.model.specs.declared.Point.{Point}
 use Rattle.model.specs.declared.Refusal.{Refusal}
 use Rattle.model.specs.declared.Outcome.{Outcome}
@@ -37,12 +37,12 @@ use Rattle.crestfile.proofs.WriterRules.{rulesButRoom}
 use Rattle.walk_laws.proofs.Reasons.{Lacks, first-holds, rest-hold, empty, other, lacks-++, lacks-above, given-exactly}
 use Rattle.walk_laws.proofs.Outcomes.{file-outside-frame}
 use Rattle.readings.proofs.Refused.{answer-number}
-use Rattle.readings.proofs.Calls.{reading-18, reading-16, reading-counted, answer-not-the-runs, acknowledge-18, acknowledge-0}
+use Rattle.readings.proofs.Calls.{reading-18, reading-16, answer-not-the-runs, acknowledge-18, acknowledge-0}
 use Rattle.answers.proofs.Noting.{noted-full, noted-counted}
 use Rattle.demands.proofs.Orders.{and-fails, placed-refused, inverse-refused, move-refused, two-rules, first-given, given-after-crest, next-after-crest}
 use Rattle.demands.proofs.Places.{lacks-rule, lacks-forEach, nowhere, here, given-at-place}
 use Rattle.demands.proofs.RecordRefusals.{RecordGives4, RecordGives5, RecordGives6, RecordGives7, JoinGives8, JoinGives9, record-gives-4, record-gives-5, record-gives-6, record-gives-7, join-gives-8, join-gives-9, RecordReached, JoinReached, records-lack, given-at-record, given-at-join}
-use Rattle.demands.proofs.Demand1.{Numbered, refused-numbered, move-code}
+use Rattle.demands.proofs.Demand1.{Numbered, refused-numbered, ReadingEnds, no-run, run-full, counts, any-reading-call, move-code}
 
 -- ---- 1 to 3 of a file's own bytes: "1; 2 for all blocks; 3 for all"
 
@@ -113,7 +113,7 @@ module _ (file : List ℕ) where
         )),
       )
 
--- ---- 4 to 9 of a file's own bytes, and of the writer's records
+-- ---- 4 to 9 of a file's own bytes
 
 -- "record, counted from 0 over all blocks as every record number is, for 4 to 7 in records; earlier record for 8, 9": of a file after 1 to 3
 module _ (file : List ℕ) (r : ℕ) where
@@ -259,10 +259,11 @@ module _ (records : List ℕ) (room : ℕ) where
 
 -- "The writer gives 17, 4 to 9, 18": after 17 its records are refused as a file's are
 module _ (records : List ℕ) (room r : ℕ) where
-  abbrev counts : List Rule
-  counts = rule₀ recordCount (countFits (length records)) ∷ []
+  -- the rule before those of its records: 17
+  abbrev counting : List Rule
+  counting = rule₀ recordCount (countFits (length records)) ∷ []
 
-  count-lacks : {n : ℕ} → n ≤ 9 → Lacks n counts
+  count-lacks : {n : ℕ} → n ≤ 9 → Lacks n counting
   unfolding number
   count-lacks h = lacks-rule recordCount (omega arith) empty
 
@@ -271,36 +272,36 @@ module _ (records : List ℕ) (room r : ℕ) where
   room-lacks h = lacks-rule wrongRoom (omega arith) empty
 
   write-at-record : (why : Reason) {P : Type 0} → number why ≤ 7 → (verdict (recordRules (recordOf records r) r) ≡ Refused (refusal why r)) ↔ P →
-      (writerOutcome records room ≡ Refused (refusal why r)) ↔ (RecordReached counts records r × P)
+      (writerOutcome records room ≡ Refused (refusal why r)) ↔ (RecordReached counting records r × P)
   unfolding writerOutcome writerRules
-  write-at-record why high gives = given-at-record counts _ records why r (count-lacks (omega arith)) (room-lacks (omega arith)) high gives
+  write-at-record why high gives = given-at-record counting _ records why r (count-lacks (omega arith)) (room-lacks (omega arith)) high gives
 
   write-at-join : (why : Reason) {P : Type 0} → 8 ≤ number why → number why ≤ 9 → (verdict (joinRules (elementAt records r) (elementAt records (r + 1)) r) ≡ Refused (refusal why r)) ↔ P →
-      (writerOutcome records room ≡ Refused (refusal why r)) ↔ (JoinReached counts records r × P)
+      (writerOutcome records room ≡ Refused (refusal why r)) ↔ (JoinReached counting records r × P)
   unfolding writerOutcome writerRules
-  write-at-join why low high gives = given-at-join counts _ records why r (count-lacks high) (room-lacks high) low gives
+  write-at-join why low high gives = given-at-join counting _ records why r (count-lacks high) (room-lacks high) low gives
 
-  pub write-refused-4 : (writerOutcome records room ≡ Refused (refusal damagedRecord r)) ↔ (RecordReached counts records r × RecordGives4 (recordOf records r))
+  pub write-refused-4 : (writerOutcome records room ≡ Refused (refusal damagedRecord r)) ↔ (RecordReached counting records r × RecordGives4 (recordOf records r))
   unfolding number
   write-refused-4 = write-at-record damagedRecord (omega arith) (record-gives-4 (recordOf records r) r)
 
-  pub write-refused-5 : (writerOutcome records room ≡ Refused (refusal laterKind r)) ↔ (RecordReached counts records r × RecordGives5 (recordOf records r))
+  pub write-refused-5 : (writerOutcome records room ≡ Refused (refusal laterKind r)) ↔ (RecordReached counting records r × RecordGives5 (recordOf records r))
   unfolding number
   write-refused-5 = write-at-record laterKind (omega arith) (record-gives-5 (recordOf records r) r)
 
-  pub write-refused-6 : (writerOutcome records room ≡ Refused (refusal fieldOutOfRange r)) ↔ (RecordReached counts records r × RecordGives6 (recordOf records r))
+  pub write-refused-6 : (writerOutcome records room ≡ Refused (refusal fieldOutOfRange r)) ↔ (RecordReached counting records r × RecordGives6 (recordOf records r))
   unfolding number
   write-refused-6 = write-at-record fieldOutOfRange (omega arith) (record-gives-6 (recordOf records r) r)
 
-  pub write-refused-7 : (writerOutcome records room ≡ Refused (refusal notUnit r)) ↔ (RecordReached counts records r × RecordGives7 (recordOf records r))
+  pub write-refused-7 : (writerOutcome records room ≡ Refused (refusal notUnit r)) ↔ (RecordReached counting records r × RecordGives7 (recordOf records r))
   unfolding number
   write-refused-7 = write-at-record notUnit (omega arith) (record-gives-7 (recordOf records r) r)
 
-  pub write-refused-8 : (writerOutcome records room ≡ Refused (refusal gap r)) ↔ (JoinReached counts records r × JoinGives8 (elementAt records r) (elementAt records (r + 1)))
+  pub write-refused-8 : (writerOutcome records room ≡ Refused (refusal gap r)) ↔ (JoinReached counting records r × JoinGives8 (elementAt records r) (elementAt records (r + 1)))
   unfolding number
   write-refused-8 = write-at-join gap (omega arith) (omega arith) (join-gives-8 _ _ r)
 
-  pub write-refused-9 : (writerOutcome records room ≡ Refused (refusal kink r)) ↔ (JoinReached counts records r × JoinGives9 (elementAt records r) (elementAt records (r + 1)))
+  pub write-refused-9 : (writerOutcome records room ≡ Refused (refusal kink r)) ↔ (JoinReached counting records r × JoinGives9 (elementAt records r) (elementAt records (r + 1)))
   unfolding number
   write-refused-9 = write-at-join kink (omega arith) (omega arith) (join-gives-9 _ _ r)
 
@@ -309,23 +310,21 @@ module _ (records : List ℕ) (room r : ℕ) where
 module _ (file : List ℕ) (r : Reading) where
   -- "a run's bytes not 24"
   pub reading-refused-18 : (run : List ℕ) → (readingCall file r run .0 ≡ 18) ↔ (length run ≢ 24)
-  reading-refused-18 run = (go (eqb (length run) 24) refl (isFull (runAt run)) refl, (λ h. ap (λ o. o .0) (reading-18 file r run h)))
+  reading-refused-18 run = (go (any-reading-call file r run), (λ h. ap (λ o. o .0) (reading-18 file r run h)))
     where
-      go : (a : Bool) → eqb (length run) 24 ≡ a → (b : Bool) → isFull (runAt run) ≡ b → readingCall file r run .0 ≡ 18 → length run ≢ 24
-      go false e b f g = eqb-false (length run) 24 e
-      go true e true f g = let z : _≡_ {A = ℕ} 16 18 = sym (ap (λ o. o .0) (reading-16 file r run (eqb-true (length run) 24 e) f)) ∙ g in absurd (omega arith)
-      go true e false f g =
-          absurd (answer-not-the-runs file r run 18 (omega arith) (omega arith) (sym (ap (λ o. o .0) (reading-counted file r run (eqb-true (length run) 24 e) f)) ∙ g))
+      go : ReadingEnds file r run → readingCall file r run .0 ≡ 18 → length run ≢ 24
+      go (no-run h e) g = h
+      go (run-full h f e) g = absurd (omega (arith, ap (λ o. o .0) e))
+      go (counts h f e) g = absurd (answer-not-the-runs file r run 18 (omega arith) (omega arith) (sym (ap (λ o. o .0) e) ∙ g))
 
   -- "run full"
   pub reading-refused-16 : (run : List ℕ) → (readingCall file r run .0 ≡ 16) ↔ ((length run ≡ 24) × (isFull (runAt run) ≡ true))
-  reading-refused-16 run = (go (eqb (length run) 24) refl (isFull (runAt run)) refl, (λ h. ap (λ o. o .0) (reading-16 file r run (h .0) (h .1))))
+  reading-refused-16 run = (go (any-reading-call file r run), (λ h. ap (λ o. o .0) (reading-16 file r run (h .0) (h .1))))
     where
-      go : (a : Bool) → eqb (length run) 24 ≡ a → (b : Bool) → isFull (runAt run) ≡ b → readingCall file r run .0 ≡ 16 → (length run ≡ 24) × (isFull (runAt run) ≡ true)
-      go false e b f g = let z : _≡_ {A = ℕ} 18 16 = sym (ap (λ o. o .0) (reading-18 file r run (eqb-false (length run) 24 e))) ∙ g in absurd (omega arith)
-      go true e true f g = (eqb-true (length run) 24 e, f)
-      go true e false f g =
-          absurd (answer-not-the-runs file r run 16 (omega arith) (omega arith) (sym (ap (λ o. o .0) (reading-counted file r run (eqb-true (length run) 24 e) f)) ∙ g))
+      go : ReadingEnds file r run → readingCall file r run .0 ≡ 16 → (length run ≡ 24) × (isFull (runAt run) ≡ true)
+      go (no-run h e) g = absurd (omega (arith, ap (λ o. o .0) e))
+      go (run-full h f e) g = (h, f)
+      go (counts h f e) g = absurd (answer-not-the-runs file r run 16 (omega arith) (omega arith) (sym (ap (λ o. o .0) e) ∙ g))
 
   -- of a run by value
   pub noted-refused-16 : (run : Run) → (noted file r run .answer ≡ AnswerRefused (refusal runFull 0)) ↔ (isFull run ≡ true)

@@ -4,6 +4,7 @@ use elements::Prepared;
 use fields::eight::signed;
 use fields::eight::u64_at;
 use model::Outcome;
+use model::layout::RECORD_SIZE;
 ghost use Rattle.elements.specs.Prepared.{Ready};
 
 // Whether a placement is the row's.
@@ -28,7 +29,7 @@ fn agrees_on(row: &[u8; 64], p: Prepared) -> bool
 
 // Whether the record is accepted, and the row agrees on its element.
 pub fn agrees(row: &[u8; 64], rec: &[u8]) -> bool {
-    if rec.len() != 32 {
+    if rec.len() != RECORD_SIZE {
         return false;
     }
     match records::check_record(rec, 0) {

@@ -4,6 +4,7 @@ use crate::series::Reach;
 use model::Element;
 use model::Kind;
 use model::Point;
+use model::units;
 ghost use mathlib.Core.Path.{_≡_};
 ghost use Prim.Native.Nat.{_^_, _≤_};
 ghost use lib.IntN.{pos, _+ℤ_, _*ℤ_};
@@ -94,7 +95,7 @@ fn reach(kind: Kind, length: u64, negative: u64, divisor: u64, half: u64, s: u64
     match kind {
         Kind::Line => Reach {
             angle: 0,
-            along: 100 * s,
+            along: units::GRAINS * s,
             aside: 0,
         },
         Kind::Arc => series::arc(s, series::arc_angle(s, half, divisor), negative),

@@ -1,5 +1,5 @@
-// The types of the crest library, what a kind byte says, and document 01's numbers under their names: layout, limits, refusals. Every
-// definition of document 01 over them is in specs/.
+// The types of the crest library, what a kind byte says, and document 01's numbers under their names: layout, limits, refusals,
+// units. Every definition of document 01 over them is in specs/.
 use crate::layout::MOST_RECORDS;
 ghost use mathlib.Core.Path.{_≡_};
 ghost use Rattle.model.specs.Kinds.{decide};
@@ -7,6 +7,7 @@ ghost use Rattle.model.specs.Kinds.{decide};
 pub mod layout;
 pub mod limits;
 pub mod refusals;
+pub mod units;
 
 // The four kinds of element that are known.
 pub enum Kind {

@@ -1,5 +1,7 @@
 // The series of document 01, "Position on an element", on magnitudes: no number on the way is negative.
 use crate::rounding::near_even;
+use model::units::GRAINS;
+use model::units::ONE;
 ghost use mathlib.Core.Path.{_≡_};
 ghost use Prim.Native.Nat.{_+_, _*_, _/_, _^_, _<_, _≤_};
 ghost use lib.IntN.{pos, _*ℤ_};
@@ -7,8 +9,6 @@ ghost use Rattle.model.specs.Rounding.{ONE, near};
 ghost use Rattle.model.specs.Series.{F, squareOf, arcSeries, spiralSeries};
 ghost use Rattle.elements.specs.Signs.{withSign};
 ghost use Rattle.elements.specs.Reached.{factorOf, seriesOf, Factorable, Curved, Usable, SeriesAt, TurnAt};
-
-const ONE: u64 = 0x4000_0000;
 
 // The numbers of F(a; b, d).
 pub struct Factor {
@@ -85,7 +85,7 @@ pub fn along(length: u64, f: u64) -> u64
     requires { ⌜ (length ≤ 500000) × (f ≤ ONE) ⌝ }
     ensures { λ r. ⌜ pos r ≡ near (pos (100 * length) *ℤ pos f) ONE ⌝ }
 {
-    near_even(100 * length * f, ONE, 0)
+    near_even(GRAINS * length * f, ONE, 0)
 }
 
 // v, of a length in mm, an angle, the factor of v and its divisor.
@@ -94,7 +94,7 @@ pub fn aside(length: u64, angle: u64, negative: u64, f: u64, divisor: u64) -> u6
     requires { ⌜ (f ≤ ONE) × (1 ≤ divisor) × (divisor ≤ 3) ⌝ }
     ensures { λ r. ⌜ withSign negative (pos r) ≡ near (near (pos (100 * length) *ℤ withSign negative (pos angle)) ONE *ℤ pos f) (divisor * ONE) ⌝ }
 {
-    let w = near_even(100 * length * angle, ONE, negative);
+    let w = near_even(GRAINS * length * angle, ONE, negative);
     near_even(w * f, divisor * ONE, negative)
 }
 

@@ -22,3 +22,4 @@ pub mod Demand2
 pub mod Demand3
 -- When each number of the table is given.
 pub mod RefusalTable
+pub mod NoPlace

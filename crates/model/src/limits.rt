@@ -11,9 +11,9 @@ pub const FRAME: u64 = 200000000;
 pub const WIDEST: u64 = 10000000;
 
 // "Direction: c² + s² at most 2^31 from 2^60."
-pub const UNIT_SQUARE: u64 = 1 << 60;
+const UNIT_SQUARE: u64 = 1 << 60;
 
-pub const UNIT_SLACK: u64 = 1 << 31;
+const UNIT_SLACK: u64 = 1 << 31;
 
 pub const LEAST_UNIT: u64 = UNIT_SQUARE - UNIT_SLACK;
 
@@ -42,7 +42,7 @@ pub const FIRST_STEP: u64 = 1000;
 // "the next station is s + 1 if a − b < 31, else s + 1 + (a − b − 31) div 150"
 pub const ROOT_SLACK: u64 = 31;
 
-pub const STATION_GRAINS: u64 = 150;
+pub const STEP_DIVISOR: u64 = 150;
 
 // "answered + refused is already 65,535 or more"
 pub const MOST_COUNTED: u32 = 65535;

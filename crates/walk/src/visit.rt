@@ -99,7 +99,7 @@ fn left_out(d: u64, b: u64, limit: u64) -> u64
     if d < limit {
         return 0;
     }
-    (integers::whole_root(d) - b - limits::ROOT_SLACK) / limits::STATION_GRAINS
+    (integers::whole_root(d) - b - limits::ROOT_SLACK) / limits::STEP_DIVISOR
 }
 
 // The step after a station at the squared distance `d`, where the best before it was `best`.

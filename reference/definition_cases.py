@@ -1403,7 +1403,8 @@ def run(rng):
         *ANSWER_USES,
         "declared.Run.{Run}",
         "lib.Ieee.{ofBits}",
-        f"Run.{{Shown, Noted, fresh, isFull, shownOf, counted, acknowledged, noted, runAt, runBytes, {calls}}}",
+        "declared.Noted.{Noted}",
+        f"Run.{{Shown, fresh, isFull, shownOf, counted, acknowledged, noted, runAt, runBytes, {calls}}}",
         "Histories.{Call, read, acknowledge, afterCalls, bytesAfterCalls, freshBytes, demanded}",
         "Histories.{Event, came, acknowledgement, eventOf, countedOf, shownAfter}",
     )

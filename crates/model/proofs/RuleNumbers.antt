@@ -1,67 +1,57 @@
--- An order of refusals gives no number above those of its rules: by induction over the rules. Those on a crest's own bytes give 1 to 9.
-use Prim.Native.Nat.{ℕ, zero, suc, _+_, _-_, _≤_, _<_}
+-- An order of refusals gives only the numbers of its rules: by induction over the rules. Those on a crest's own bytes give its own, 1 to 9.
+use Prim.Native.Nat.{ℕ, zero, suc, _+_, _-_}
 use mathlib.Core.Bool.{Bool, true, false}
-use mathlib.Core.List.{List, [], _∷_, _++_}
-use mathlib.Core.Path.{_≡_, subst}
+use mathlib.Core.List.{List, _++_}
+use mathlib.Core.Path.{_≡_, refl, sym, _∙_, ap}
 use native.Mathlib.Omega.{arith}
 use Rattle.model.specs.declared.Refusal.{Refusal}
-use Rattle.model.specs.declared.Outcome.{Outcome}
-use Rattle.model.specs.declared.Outcome.the-variants.{Done, Refused}
+use Rattle.model.specs.declared.Outcome.the-variants.{Refused}
 use Rattle.model.specs.Records.{recordBytes, countOf, blockCount}
-use Rattle.model.specs.Refusals.{Rule, number, orRefused, verdict, forEach}
-use Rattle.model.specs.Acceptance.{recordRules, joinRules, recordsRules, sumRules, fieldRules, blocksRules, crestRules}
+use Rattle.model.specs.Refusals.{Rule, number, refusal, Gives, none, more, orRefused, verdict, forEach}
+use Rattle.model.specs.Acceptance.{recordRules, joinRules, eachRecord, eachJoin, recordsRules, sumRules, fieldRules, blocksRules, crestRules}
+use Rattle.model.specs.Crest.{isOwn}
 
--- no rule of the list gives a number above n
-pub data UpTo (n : ℕ) : List Rule → Type 0 where
-  none : UpTo n []
-  more : {r : Rule} {rs : List Rule} → number (r .why) ≤ n → UpTo n rs → UpTo n (r ∷ rs)
+pub gives-++ : {t : ℕ → Bool} {rs ss : List Rule} → Gives t rs → Gives t ss → Gives t (rs ++ ss)
+gives-++ none b = b
+gives-++ (more h a) b = more h (gives-++ a b)
 
-pub up-to-++ : {n : ℕ} {rs ss : List Rule} → UpTo n rs → UpTo n ss → UpTo n (rs ++ ss)
-up-to-++ none b = b
-up-to-++ (more h a) b = more h (up-to-++ a b)
+-- of a wider test
+pub gives-wider : {t u : ℕ → Bool} {rs : List Rule} → ((n : ℕ) → t n ≡ true → u n ≡ true) → Gives t rs → Gives u rs
+gives-wider w none = none
+gives-wider w (more {r} h a) = more {r = r} (w (number (r .why)) h) (gives-wider w a)
 
-pub up-to-≤ : {m n : ℕ} {rs : List Rule} → m ≤ n → UpTo m rs → UpTo n rs
-up-to-≤ h none = none
-up-to-≤ h (more {r} k a) = more {r = r} (omega arith) (up-to-≤ h a)
-
-up-to-forEach : {n : ℕ} {f : ℕ → List Rule} → ((i : ℕ) → UpTo n (f i)) → (k i : ℕ) → UpTo n (forEach f k i)
+gives-forEach : {t : ℕ → Bool} {f : ℕ → List Rule} → ((i : ℕ) → Gives t (f i)) → (k i : ℕ) → Gives t (forEach f k i)
 unfolding forEach
-up-to-forEach h zero i = none
-up-to-forEach h (suc k) i = up-to-++ (h i) (up-to-forEach h k (i + 1))
+gives-forEach h zero i = none
+gives-forEach h (suc k) i = gives-++ (h i) (gives-forEach h k (i + 1))
 
--- the number of an outcome's refusal, 0 for none
-abbrev pub numberOf : Outcome → ℕ
-numberOf Done = 0
-numberOf (Refused r) = r .number
-
-pub verdict-up-to : {n : ℕ} {rs : List Rule} → UpTo n rs → numberOf (verdict rs) ≤ n
-unfolding verdict orRefused
-verdict-up-to none = omega arith
-verdict-up-to {n} (more {r} {rs} h a) = either (r .holds) (verdict-up-to a)
+-- so the number of a refusal is one of them
+pub given : {t : ℕ → Bool} {rs : List Rule} (w : Refusal) → Gives t rs → verdict rs ≡ Refused w → t (w .number) ≡ true
+unfolding verdict orRefused refusal
+given w none e = let z : _≡_ {A = ℕ} 0 1 = cc in absurd (omega arith)
+given {t} w (more {r} {rs} h a) e = either (r .holds) (given w a) e
   where
-    either : (b : Bool) → numberOf (verdict rs) ≤ n → numberOf (orRefused b (r .why) (r .place) (verdict rs)) ≤ n
-    either true k = k
-    either false k = h
-
--- so one above is no refusal of the order
-pub not-above : {n : ℕ} {rs : List Rule} (w : Refusal) → UpTo n rs → verdict rs ≡ Refused w → n < w .number → ⊥
-not-above {n} w a e h = let k : w .number ≤ n = subst (λ (o : Outcome). numberOf o ≤ n) e (verdict-up-to a) in omega arith
+    either : (b : Bool) → (verdict rs ≡ Refused w → t (w .number) ≡ true) → orRefused b (r .why) (r .place) (verdict rs) ≡ Refused w → t (w .number) ≡ true
+    either true rest e = rest e
+    either false rest e = let n : number (r .why) ≡ w .number = cc in sym (ap t n) ∙ h
 
 -- ---- a crest's own
 
-pub records-up-to-9 : (bytes : List ℕ) → UpTo 9 (recordsRules bytes)
-unfolding recordsRules recordRules joinRules number
-records-up-to-9 bytes =
-    up-to-++
-    (up-to-forEach (λ r. more (omega arith) (more (omega arith) (more (omega arith) (more (omega arith) (more (omega arith) none))))) (countOf bytes) 0)
-    (up-to-forEach (λ r. more (omega arith) (more (omega arith) none)) (countOf bytes - 1) 0)
+pub records-own : (bytes : List ℕ) → Gives isOwn (recordsRules bytes)
+unfolding recordsRules eachRecord eachJoin recordRules joinRules number isOwn
+records-own bytes =
+    gives-++
+    (gives-forEach (λ r. more refl (more refl (more refl (more refl (more refl none))))) (countOf bytes) 0)
+    (gives-forEach (λ r. more refl (more refl none)) (countOf bytes - 1) 0)
 
-pub crest-up-to-9 : (file : List ℕ) → UpTo 9 (crestRules file)
-unfolding crestRules blocksRules sumRules fieldRules number
-crest-up-to-9 file =
-    up-to-++
-    (more (omega arith)
-    (up-to-++
-    (up-to-forEach (λ b. more (omega arith) none) (blockCount file) 0)
-    (up-to-forEach (λ b. more (omega arith) none) (blockCount file) 0)))
-    (records-up-to-9 (recordBytes file))
+pub blocks-own : (file : List ℕ) → Gives isOwn (blocksRules file)
+unfolding blocksRules sumRules fieldRules number isOwn
+blocks-own file =
+    more refl
+    (gives-++
+    (gives-forEach (λ b. more refl none) (blockCount file) 0)
+    (gives-forEach (λ b. more refl none) (blockCount file) 0))
+
+pub file-own : (file : List ℕ) → Gives isOwn (crestRules file)
+unfolding crestRules
+file-own file = gives-++ (blocks-own file) (records-own (recordBytes file))

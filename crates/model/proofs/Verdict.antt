@@ -8,11 +8,10 @@ use native.Mathlib.Omega.{arith}
 use Rattle.model.specs.declared.Refusal.{Refusal}
 use Rattle.model.specs.declared.Outcome.{Outcome}
 use Rattle.model.specs.declared.Outcome.the-variants.{Done, Refused}
-use Rattle.model.specs.Refusals.{Reason, byteCount, checksum, blockField, damagedRecord, laterKind, fieldOutOfRange, notUnit, gap, kink, notWhole, outsideFrame, tooFar, beforeStart, afterEnd, askedOutOfRange, runFull, recordCount, wrongRoom, number, Rule, refusal, orRefused, verdict}
-use Rattle.model.specs.Acceptance.{checked, crestRules}
+use Rattle.model.specs.Refusals.{Reason, byteCount, checksum, blockField, damagedRecord, laterKind, fieldOutOfRange, notUnit, gap, kink, notWhole, outsideFrame, tooFar, beforeStart, afterEnd, askedOutOfRange, runFull, recordCount, wrongRoom, number, lastNumber, Rule, refusal, orRefused, verdict}
 
--- a number of the table is one of 1 to 18
-pub reason-numbered : (why : Reason) → (1 ≤ number why) × (number why ≤ 18)
+-- a number of the table is one of 1 to the last
+pub reason-numbered : (why : Reason) → (1 ≤ number why) × (number why ≤ lastNumber)
 unfolding number
 reason-numbered byteCount = (omega arith, omega arith)
 reason-numbered checksum = (omega arith, omega arith)
@@ -124,11 +123,10 @@ refused→first (r ∷ rs) why e = go (λ d. refused→first rs why d) (r .holds
     go rest true h = later h (rest (at true h))
     go rest false h = here r rs why h (at false h)
 
--- Every list of bytes has one outcome: it is accepted where all rules hold, and else refused by the first that does not.
-pub crest-outcome : (file : List ℕ) → (checked file ≡ Done × AllHold (crestRules file)) ⊎ ((why : Refusal) × (checked file ≡ Refused why) × Cause (crestRules file) why)
-unfolding checked
-crest-outcome file = go (verdict (crestRules file)) refl
+-- Every order has one outcome: nothing is refused where all rules hold, and else the first that does not gives the refusal.
+pub order-outcome : (rs : List Rule) → (verdict rs ≡ Done × AllHold rs) ⊎ ((why : Refusal) × (verdict rs ≡ Refused why) × Cause rs why)
+order-outcome rs = go (verdict rs) refl
   where
-    go : (o : Outcome) → verdict (crestRules file) ≡ o → (checked file ≡ Done × AllHold (crestRules file)) ⊎ ((why : Refusal) × (checked file ≡ Refused why) × Cause (crestRules file) why)
-    go Done e = inl (e, done→all (crestRules file) e)
-    go (Refused why) e = inr (why, e, refused→first (crestRules file) why e)
+    go : (o : Outcome) → verdict rs ≡ o → (verdict rs ≡ Done × AllHold rs) ⊎ ((why : Refusal) × (verdict rs ≡ Refused why) × Cause rs why)
+    go Done e = inl (e, done→all rs e)
+    go (Refused why) e = inr (why, e, refused→first rs why e)

@@ -1,4 +1,4 @@
--- Document 01, "The crest file" and "Refusal numbers": when a file, and when record bytes, are accepted.
+-- Document 01, "The crest file" and "Refusal numbers": when a block, a record, a join and a file are accepted, in this order.
 use Prim.Native.Nat.{ℕ, zero, suc, _+_, _-_, _*_, _^_}
 use mathlib.Core.Bool.{Bool, true, false, not, cond, _&&_, _||_}
 use mathlib.Core.List.{List, [], _∷_, _++_}
@@ -13,7 +13,7 @@ use Rattle.model.specs.declared.Element.{Element}
 use Rattle.model.specs.declared.Point.{Point}
 use Rattle.model.specs.declared.Outcome.{Outcome}
 use Rattle.model.specs.Kinds.{decide}
-use Rattle.model.specs.Records.{byteAt, u16At, u32At, i32At, part, allZero, sumA, sumB, recordSize, recordsEnd, sumsAt, edition, zerosAt, zeroCount, perBlock, blockCount, blockOf, usedIn, recordBytes, countOf, recordOf}
+use Rattle.model.specs.Records.{byteAt, u16At, u32At, i32At, part, allZero, sumA, sumB, blockSize, recordSize, perBlock, fieldsAt, editionAt, edition, zerosAt, zeroCount, sumsAt, sumBAt, kindAt, firstZerosAt, firstZeroCount, recordLengthAt, xAt, yAt, cAt, sAt, radiusAt, lastZerosAt, lastZeroCount, blockCount, blockOf, usedIn, recordBytes, countOf, recordOf}
 use Rattle.model.specs.Refusals.{Rule, rule, rule₀, verdict, forEach, byteCount, checksum, blockField, damagedRecord, laterKind, fieldOutOfRange, notUnit, gap, kink}
 use Rattle.model.specs.Series.{positionOn, tangentOn}
 
@@ -43,7 +43,42 @@ widestGap = 100
 abbrev pub widestKink : ℕ
 widestKink = 1000000
 
--- ---- a record as an element
+-- ---- a block, in its file
+
+-- "byte count not 512, 1024, 1536 or 2048"
+unfoldable pub lengthFits : ℕ → Bool
+lengthFits n = eqb n blockSize || eqb n (2 * blockSize) || eqb n (3 * blockSize) || eqb n (4 * blockSize)
+
+-- "a block's A or B is wrong"
+unfoldable pub sumsAgree : List ℕ → Bool
+unfolding sumA sumB
+sumsAgree block = eqb (u16At block sumsAt) (sumA block) && eqb (u16At block sumBAt) (sumB block)
+
+-- "Every block but the last uses 15 records, the last 1 to 15": of block b of n
+unfoldable pub useFits : ℕ → ℕ → ℕ → Bool
+useFits n b used = cond (eqb (b + 1) n) (leb 1 used && leb used perBlock) (eqb used perBlock)
+
+-- "480: block number, u16, from 0. 482: records in use, u16. 484: edition, u32, is 1. 488 to 507: zero. .. unused records are zero."
+unfoldable pub fieldsFit : ℕ → ℕ → List ℕ → Bool
+unfolding useFits allZero
+fieldsFit n b block =
+    eqb (u16At block fieldsAt) b
+    && useFits n b (usedIn block)
+    && eqb (u32At block editionAt) edition
+    && allZero (part block zerosAt zeroCount)
+    && allZero (part block (recordSize * usedIn block) (fieldsAt - recordSize * usedIn block))
+
+-- "2 for all blocks", with its place, "block for 2, 3": of block b
+unfoldable pub sumRules : List ℕ → ℕ → List Rule
+unfolding sumsAgree
+sumRules file b = rule checksum b (sumsAgree (blockOf file b)) ∷ []
+
+-- "3 for all", with the same place
+unfoldable pub fieldRules : List ℕ → ℕ → List Rule
+unfolding fieldsFit
+fieldRules file b = rule blockField b (fieldsFit (blockCount file) b (blockOf file b)) ∷ []
+
+-- ---- a record, as an element
 
 -- "0 and 16 to 255 are damage"
 unfoldable pub isDamaged : KindByte → Bool
@@ -66,14 +101,14 @@ kindIn Later = Line
 -- "Record: 0 kind; 1 to 3 zero; 4 length L, u32; 8 x; 12 y; 16 c; 20 s; 24 radius R in mm; 28 zero, u32. x, y, c, s and R are i32."
 unfoldable pub elementOf : List ℕ → Element
 unfolding kindIn decide
-elementOf r = record { kind = kindIn (decide (byteAt r 0)); length = u32At r 4; x = i32At r 8; y = i32At r 12; c = i32At r 16; s = i32At r 20; radius = i32At r 24 }
+elementOf r = record { kind = kindIn (decide (byteAt r kindAt)); length = u32At r recordLengthAt; x = i32At r xAt; y = i32At r yAt; c = i32At r cAt; s = i32At r sAt; radius = i32At r radiusAt }
 
--- ---- one record
+-- ---- a record, by itself
 
 -- "a nonzero byte 1 to 3 or 28 to 31 of a used record"
 unfoldable pub reservedZero : List ℕ → Bool
 unfolding allZero
-reservedZero r = allZero (part r 1 3) && allZero (part r 28 4)
+reservedZero r = allZero (part r firstZerosAt firstZeroCount) && allZero (part r lastZerosAt lastZeroCount)
 
 -- "The frame: every given point lies within ±200,000,000 in both coordinates."
 unfoldable pub inFrame : ℤ → ℤ → Bool
@@ -104,14 +139,14 @@ unfoldable pub recordRules : List ℕ → ℕ → List Rule
 unfolding isDamaged isLater reservedZero rangesGood isUnit elementOf decide
 recordRules this r =
     let e = elementOf this in
-    rule damagedRecord r (not (isDamaged (decide (byteAt this 0))))
-    ∷ rule laterKind r (not (isLater (decide (byteAt this 0))))
+    rule damagedRecord r (not (isDamaged (decide (byteAt this kindAt))))
+    ∷ rule laterKind r (not (isLater (decide (byteAt this kindAt))))
     ∷ rule damagedRecord r (reservedZero this)
     ∷ rule fieldOutOfRange r (rangesGood e)
     ∷ rule notUnit r (isUnit (e .c) (e .s))
     ∷ []
 
--- ---- joins
+-- ---- a join
 
 -- both coordinates, or both components, differ by at most n
 unfoldable pub closeBy : ℕ → Point → Point → Bool
@@ -132,60 +167,33 @@ unfoldable pub joinRules : Element → Element → ℕ → List Rule
 unfolding meets continues
 joinRules e f r = rule gap r (meets e f) ∷ rule kink r (continues e f) ∷ []
 
--- the element of record r of record bytes
-unfoldable pub elementAt : List ℕ → ℕ → Element
-unfolding elementOf
-elementAt bytes r = elementOf (recordOf bytes r)
-
--- 4 to 9 on record bytes
-unfoldable pub recordsRules : List ℕ → List Rule
-unfolding forEach recordRules joinRules elementAt
-recordsRules bytes =
-    forEach (λ r. recordRules (recordOf bytes r) r) (countOf bytes) 0
-    ++ forEach (λ r. joinRules (elementAt bytes r) (elementAt bytes (r + 1)) r) (countOf bytes - 1) 0
-
--- ---- blocks
-
--- "byte count not 512, 1024, 1536 or 2048"
-unfoldable pub lengthFits : ℕ → Bool
-lengthFits n = eqb n 512 || eqb n 1024 || eqb n 1536 || eqb n 2048
-
--- "a block's A or B is wrong"
-unfoldable pub sumsAgree : List ℕ → Bool
-unfolding sumA sumB
-sumsAgree block = eqb (u16At block sumsAt) (sumA block) && eqb (u16At block (sumsAt + 2)) (sumB block)
-
--- "Every block but the last uses 15 records, the last 1 to 15": of block b of n
-unfoldable pub useFits : ℕ → ℕ → ℕ → Bool
-useFits n b used = cond (eqb (b + 1) n) (leb 1 used && leb used perBlock) (eqb used perBlock)
-
--- "480: block number, u16, from 0. 482: records in use, u16. 484: edition, u32, is 1. 488 to 507: zero. .. unused records are zero."
-unfoldable pub fieldsFit : ℕ → ℕ → List ℕ → Bool
-unfolding useFits allZero
-fieldsFit n b block =
-    eqb (u16At block recordsEnd) b
-    && useFits n b (usedIn block)
-    && eqb (u32At block 484) edition
-    && allZero (part block zerosAt zeroCount)
-    && allZero (part block (recordSize * usedIn block) (recordsEnd - recordSize * usedIn block))
-
--- "2 for all blocks", with its place, "block for 2, 3": of block b
-unfoldable pub sumRules : List ℕ → ℕ → List Rule
-unfolding sumsAgree
-sumRules file b = rule checksum b (sumsAgree (blockOf file b)) ∷ []
-
--- "3 for all", with the same place
-unfoldable pub fieldRules : List ℕ → ℕ → List Rule
-unfolding fieldsFit
-fieldRules file b = rule blockField b (fieldsFit (blockCount file) b (blockOf file b)) ∷ []
-
--- ---- a file
+-- ---- a file: its blocks, then its records and their joins
 
 -- "1; 2 for all blocks; 3 for all"
 unfoldable pub blocksRules : List ℕ → List Rule
 unfolding lengthFits forEach sumRules fieldRules
 blocksRules file =
     rule₀ byteCount (lengthFits (length file)) ∷ (forEach (sumRules file) (blockCount file) 0 ++ forEach (fieldRules file) (blockCount file) 0)
+
+-- the element of record r of record bytes
+unfoldable pub elementAt : List ℕ → ℕ → Element
+unfolding elementOf
+elementAt bytes r = elementOf (recordOf bytes r)
+
+-- "record by record its kind, reserved bytes, 6, 7", of record bytes
+unfoldable pub eachRecord : List ℕ → List Rule
+unfolding forEach recordRules
+eachRecord bytes = forEach (λ r. recordRules (recordOf bytes r) r) (countOf bytes) 0
+
+-- "then joins from the first", of their elements
+unfoldable pub eachJoin : List ℕ → List Rule
+unfolding forEach joinRules elementAt
+eachJoin bytes = forEach (λ r. joinRules (elementAt bytes r) (elementAt bytes (r + 1)) r) (countOf bytes - 1) 0
+
+-- 4 to 9 on record bytes
+unfoldable pub recordsRules : List ℕ → List Rule
+unfolding eachRecord eachJoin
+recordsRules bytes = eachRecord bytes ++ eachJoin bytes
 
 -- "Order: .. 1; 2 for all blocks; 3 for all; then record by record ..; then joins"
 unfoldable pub crestRules : List ℕ → List Rule
@@ -196,6 +204,8 @@ crestRules file = blocksRules file ++ recordsRules (recordBytes file)
 unfoldable pub checked : List ℕ → Outcome
 unfolding verdict crestRules
 checked file = verdict (crestRules file)
+
+-- ---- its elements
 
 -- the elements of n records from r on
 unfoldable pub elementsFrom : ℕ → ℕ → List ℕ → List Element

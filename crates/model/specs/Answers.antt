@@ -1,7 +1,9 @@
--- Document 01, "Station, offset, inverse, stake-out" and "Refusal numbers": what each question is answered, refused ones too.
+-- Document 01, "Station, offset, inverse, stake-out" and "Refusal numbers": what each question is answered, refused ones too. A question at a time: its formula, its order
+-- of refusals, its answer, and the paper's number, place and values of that.
 use Prim.Native.Nat.{ℕ, _*_, _+_}
 use mathlib.Core.Bool.{not, _&&_}
 use mathlib.Core.List.{List, [], _∷_, _++_}
+use lib.ListN.{length, replicate}
 use lib.Dec.{leb, ltb, eqb}
 use lib.IntN.{ℤ, pos, negℤ, natAbs, _+ℤ_, _-ℤ_, _*ℤ_}
 use lib.Signed.{ltZ}
@@ -21,12 +23,13 @@ use Rattle.model.specs.declared.Move.the-variants.{By, Refused as MoveRe
 use Rattle.model.specs.Rounding.{ONE, near}
 use Rattle.model.specs.Records.{part, recordSize, recordStart, recordBytes, countOf}
 use Rattle.model.specs.Refusals.{Rule, rule₀, verdict, notUnit, outsideFrame, tooFar, beforeStart, afterEnd, askedOutOfRange}
-use Rattle.model.specs.Acceptance.{inFrame, isUnit, crestRules, crestElements}
+use Rattle.model.specs.Acceptance.{inFrame, isUnit, crestRules}
+use Rattle.model.specs.Crest.{Crest}
 use Rattle.model.specs.Stations.{total, isStation, positionAt, tangentAt, D}
 use Rattle.model.specs.Judged.{judged, residualAt, offsetAt, minus}
 use Rattle.model.specs.Walk.{visitCount}
 
--- ---- the paper's number, place and values of each answer
+-- ---- the paper's number, place and values of an answer
 
 -- "A refusal returns its number and a place .., all other numbers zero"; an answer has number 0.
 pub record PaperAnswer : Type 0 where
@@ -37,33 +40,23 @@ pub record PaperAnswer : Type 0 where
 abbrev pub answer : List ℤ → PaperAnswer
 answer values = record { number = 0; place = 0; values = values }
 
-abbrev pub refusedWith : Refusal → List ℤ → PaperAnswer
-refusedWith r zeros = record { number = r .number; place = r .place; values = zeros }
+-- a refusal of a question that has n values
+abbrev pub refusedWith : Refusal → ℕ → PaperAnswer
+refusedWith r n = record { number = r .number; place = r .place; values = replicate n (pos 0) }
 
-unfoldable pub paperOfOutcome : Outcome → PaperAnswer
-paperOfOutcome Done = answer []
-paperOfOutcome (Refused r) = refusedWith r []
-
-unfoldable pub paperOfPlaced : Placed → PaperAnswer
-paperOfPlaced (PlacedAt x y tx ty) = answer (x ∷ y ∷ tx ∷ ty ∷ [])
-paperOfPlaced (PlacedRefused r) = refusedWith r (pos 0 ∷ pos 0 ∷ pos 0 ∷ pos 0 ∷ [])
-
--- "Every answer to a plane point carries it beside station, offset and residual; a refusal gives 0 for it"
-unfoldable pub paperOfLocated : Located → PaperAnswer
-paperOfLocated (LocatedAt station offset residual visits) = answer (pos station ∷ offset ∷ residual ∷ pos visits ∷ [])
-paperOfLocated (LocatedRefused r) = refusedWith r (pos 0 ∷ pos 0 ∷ pos 0 ∷ pos 0 ∷ [])
-
-unfoldable pub paperOfInverse : Inverse → PaperAnswer
-paperOfInverse (InverseAt x y) = answer (x ∷ y ∷ [])
-paperOfInverse (InverseRefused r) = refusedWith r (pos 0 ∷ pos 0 ∷ [])
-
-unfoldable pub paperOfMove : Move → PaperAnswer
-paperOfMove (By forward left) = answer (forward ∷ left ∷ [])
-paperOfMove (MoveRefused r) = refusedWith r (pos 0 ∷ pos 0 ∷ [])
+-- of an order that comes to this outcome, for a question that has these values
+unfoldable pub paperIf : Outcome → List ℤ → PaperAnswer
+paperIf Done values = answer values
+paperIf (Refused r) values = refusedWith r (length values)
 
 -- "A C call returns the refusal number plus 256 times its place, or 0"
 unfoldable pub code : PaperAnswer → ℕ
 code p = p .number + 256 * p .place
+
+-- a check and a writer have no values
+unfoldable pub paperOfOutcome : Outcome → PaperAnswer
+paperOfOutcome Done = answer []
+paperOfOutcome (Refused r) = refusedWith r 0
 
 -- ---- the reader
 
@@ -92,17 +85,42 @@ readerPart file r = let span = readerSpan file r in part file (span .start) (spa
 
 -- ---- position and direction at a station
 
+-- "station .. out of range"; "a position at a station isn't tested against the frame"
+unfoldable pub stationRules : List Element → ℤ → List Rule
+unfolding isStation
+stationRules es s = rule₀ askedOutOfRange (isStation es s) ∷ []
+
 unfoldable pub placedIf : Outcome → List Element → ℕ → Placed
 unfolding positionAt tangentAt
 placedIf Done es s = let p = positionAt es s in let t = tangentAt es s in PlacedAt (p .x) (p .y) (t .x) (t .y)
 placedIf (Refused r) es s = PlacedRefused r
 
--- "a position at a station isn't tested against the frame"
-unfoldable pub placed : List ℕ → ℤ → Placed
-unfolding placedIf verdict crestRules crestElements isStation
-placed file s =
-    let es = crestElements file in
-    placedIf (verdict (crestRules file ++ (rule₀ askedOutOfRange (isStation es s) ∷ []))) es (natAbs s)
+-- with the rules that come before
+unfoldable pub placedAfter : List Rule → List Element → ℤ → Placed
+unfolding placedIf verdict stationRules
+placedAfter before es s = placedIf (verdict (before ++ stationRules es s)) es (natAbs s)
+
+-- on the elements of an accepted alignment
+unfoldable pub placedOn : List Element → ℤ → Placed
+unfolding placedAfter
+placedOn es s = placedAfter [] es s
+
+-- on a crest, whose own refusals come first: "Every entry checks the alignment it is given."
+unfoldable pub placed : Crest → ℤ → Placed
+unfolding placedAfter
+placed c s = placedAfter (c .rules) (c .elements) s
+
+unfoldable pub paperOfPlaced : Placed → PaperAnswer
+paperOfPlaced (PlacedAt x y tx ty) = answer (x ∷ y ∷ tx ∷ ty ∷ [])
+paperOfPlaced (PlacedRefused r) = refusedWith r 4
+
+-- the same by the order's outcome: X, Y, Tx, Ty
+unfoldable pub placedPaper : Crest → ℤ → PaperAnswer
+unfolding paperIf verdict stationRules positionAt tangentAt
+placedPaper c s =
+    let p = positionAt (c .elements) (natAbs s) in
+    let t = tangentAt (c .elements) (natAbs s) in
+    paperIf (verdict (c .rules ++ stationRules (c .elements) s)) (p .x ∷ p .y ∷ t .x ∷ t .y ∷ [])
 
 -- ---- station and offset of a point
 
@@ -139,10 +157,26 @@ unfoldable pub locatedOn : List Element → Point → Located
 unfolding locatedAfter
 locatedOn es p = locatedAfter [] es p
 
--- on a crest file, whose own refusals come first: "Every entry checks the alignment it is given."
-unfoldable pub located : List ℕ → Point → Located
-unfolding locatedAfter crestRules crestElements
-located file p = locatedAfter (crestRules file) (crestElements file) p
+-- on a crest, whose own refusals come first: "Every entry checks the alignment it is given."
+unfoldable pub located : Crest → Point → Located
+unfolding locatedAfter
+located c p = locatedAfter (c .rules) (c .elements) p
+
+-- "Every answer to a plane point carries it beside station, offset and residual; a refusal gives 0 for it"
+unfoldable pub paperOfLocated : Located → PaperAnswer
+paperOfLocated (LocatedAt station offset residual visits) = answer (pos station ∷ offset ∷ residual ∷ pos visits ∷ [])
+paperOfLocated (LocatedRefused r) = refusedWith r 4
+
+-- the same by the order's outcome: station, offset, residual, visits; with the rules that come before
+unfoldable pub locatedPaperAfter : List Rule → List Element → Point → PaperAnswer
+unfolding paperIf verdict pointRules judged offsetAt residualAt visitCount
+locatedPaperAfter before es p =
+    let s = judged es p in
+    paperIf (verdict (before ++ pointRules es p s)) (pos s ∷ offsetAt es p s ∷ residualAt es p s ∷ pos (visitCount es p) ∷ [])
+
+unfoldable pub locatedPaper : Crest → Point → PaperAnswer
+unfolding locatedPaperAfter
+locatedPaper c p = locatedPaperAfter (c .rules) (c .elements) p
 
 -- ---- the inverse
 
@@ -181,19 +215,39 @@ unfoldable pub inverseOn : List Element → ℤ → ℤ → Inverse
 unfolding inverseAfter
 inverseOn es s w = inverseAfter [] es s w
 
--- on a crest file, whose own refusals come first: "Every entry checks the alignment it is given."
-unfoldable pub inverse : List ℕ → ℤ → ℤ → Inverse
-unfolding inverseAfter crestRules crestElements
-inverse file s w = inverseAfter (crestRules file) (crestElements file) s w
+-- on a crest, whose own refusals come first: "Every entry checks the alignment it is given."
+unfoldable pub inverse : Crest → ℤ → ℤ → Inverse
+unfolding inverseAfter
+inverse c s w = inverseAfter (c .rules) (c .elements) s w
+
+unfoldable pub paperOfInverse : Inverse → PaperAnswer
+paperOfInverse (InverseAt x y) = answer (x ∷ y ∷ [])
+paperOfInverse (InverseRefused r) = refusedWith r 2
+
+-- the same by the order's outcome: X, Y; with the rules that come before
+unfoldable pub inversePaperAfter : List Rule → List Element → ℤ → ℤ → PaperAnswer
+unfolding paperIf verdict lineRules inverseAt
+inversePaperAfter before es s w = let q = inverseAt es (natAbs s) w in paperIf (verdict (before ++ lineRules es s w)) (q .x ∷ q .y ∷ [])
+
+unfoldable pub inversePaper : Crest → ℤ → ℤ → PaperAnswer
+unfolding inversePaperAfter
+inversePaper c s w = inversePaperAfter (c .rules) (c .elements) s w
 
 -- ---- the stake-out
 
--- "forward = near(c·dx + s·dy, ONE), left = near(−s·dx + c·dy, ONE), (dx, dy) = target − own"
-unfoldable pub moveOf : Point → Point → ℤ → ℤ → Move
+-- "forward = near(c·dx + s·dy, ONE)", "(dx, dy) = target − own"
+unfoldable pub forwardOf : Point → Point → ℤ → ℤ → ℤ
 unfolding near minus
-moveOf own target c s =
-    let d = minus target own in
-    By (near (c *ℤ d .x +ℤ s *ℤ d .y) ONE) (near (negℤ s *ℤ d .x +ℤ c *ℤ d .y) ONE)
+forwardOf own target c s = let d = minus target own in near (c *ℤ d .x +ℤ s *ℤ d .y) ONE
+
+-- "left = near(−s·dx + c·dy, ONE)"
+unfoldable pub leftOf : Point → Point → ℤ → ℤ → ℤ
+unfolding near minus
+leftOf own target c s = let d = minus target own in near (negℤ s *ℤ d .x +ℤ c *ℤ d .y) ONE
+
+unfoldable pub moveOf : Point → Point → ℤ → ℤ → Move
+unfolding forwardOf leftOf
+moveOf own target c s = By (forwardOf own target c s) (leftOf own target c s)
 
 -- "11 ..; 7 for a heading"
 unfoldable pub moveRules : Point → Point → ℤ → ℤ → List Rule
@@ -213,3 +267,12 @@ moveIf (Refused r) own target c s = MoveRefused r
 unfoldable pub stakeOut : Point → Point → ℤ → ℤ → Move
 unfolding moveIf verdict moveRules
 stakeOut own target c s = moveIf (verdict (moveRules own target c s)) own target c s
+
+unfoldable pub paperOfMove : Move → PaperAnswer
+paperOfMove (By forward left) = answer (forward ∷ left ∷ [])
+paperOfMove (MoveRefused r) = refusedWith r 2
+
+-- the same by the order's outcome: forward, left
+unfoldable pub movePaper : Point → Point → ℤ → ℤ → PaperAnswer
+unfolding paperIf verdict moveRules forwardOf leftOf
+movePaper own target c s = paperIf (verdict (moveRules own target c s)) (forwardOf own target c s ∷ leftOf own target c s ∷ [])

@@ -7,12 +7,14 @@ pub mod Series
 pub mod Bound
 pub mod Acceptance
 pub mod Writer
-pub mod Stations
 pub mod Accepted
+pub mod Crest
+pub mod Stations
 pub mod Judged
 pub mod Walk
 pub mod Answers
 pub mod Readings
 pub mod Run
+pub mod Calls
 pub mod Histories
 pub mod Program

@@ -6,7 +6,7 @@ use lib.ListN.{length, take, drop, getD}
 use lib.Dec.{eqb}
 use lib.IntN.{ℤ}
 use mir.Syntax.{w32}
-use mir.Val.{toZ}
+use mir.Val.{toZ, ofZ}
 
 -- ---- the layout's numbers
 
@@ -29,7 +29,16 @@ recordsEnd = 480
 abbrev pub mostRecords : ℕ
 mostRecords = 60
 
--- "484: edition, u32, is 1. 488 to 507: zero."
+-- "480: block number, u16, from 0. 482: records in use, u16. 484: edition, u32, is 1. 488 to 507: zero."
+abbrev pub fieldsAt : ℕ
+fieldsAt = 480
+
+abbrev pub usedAt : ℕ
+usedAt = 482
+
+abbrev pub editionAt : ℕ
+editionAt = 484
+
 abbrev pub edition : ℕ
 edition = 1
 
@@ -39,9 +48,49 @@ zerosAt = 488
 abbrev pub zeroCount : ℕ
 zeroCount = 20
 
--- the sums stand last, and sum what is before them
+-- "508: A, u16, .. modulo 65,536. 510: B, u16, .. same modulus.": the sums stand last, and sum what is before them
 abbrev pub sumsAt : ℕ
 sumsAt = 508
+
+abbrev pub sumBAt : ℕ
+sumBAt = 510
+
+abbrev pub sumModulus : ℕ
+sumModulus = 65536
+
+-- "Record: 0 kind; 1 to 3 zero; 4 length L, u32; 8 x; 12 y; 16 c; 20 s; 24 radius R in mm; 28 zero, u32."
+abbrev pub kindAt : ℕ
+kindAt = 0
+
+abbrev pub firstZerosAt : ℕ
+firstZerosAt = 1
+
+abbrev pub firstZeroCount : ℕ
+firstZeroCount = 3
+
+abbrev pub recordLengthAt : ℕ
+recordLengthAt = 4
+
+abbrev pub xAt : ℕ
+xAt = 8
+
+abbrev pub yAt : ℕ
+yAt = 12
+
+abbrev pub cAt : ℕ
+cAt = 16
+
+abbrev pub sAt : ℕ
+sAt = 20
+
+abbrev pub radiusAt : ℕ
+radiusAt = 24
+
+abbrev pub lastZerosAt : ℕ
+lastZerosAt = 28
+
+abbrev pub lastZeroCount : ℕ
+lastZeroCount = 4
 
 -- ---- fields: "little-endian"
 
@@ -63,6 +112,9 @@ u16Bytes n = n % 256 ∷ n / 256 % 256 ∷ []
 
 abbrev pub u32Bytes : ℕ → List ℕ
 u32Bytes n = n % 256 ∷ n / 256 % 256 ∷ n / 65536 % 256 ∷ n / 16777216 % 256 ∷ []
+
+abbrev pub i32Bytes : ℤ → List ℕ
+i32Bytes z = u32Bytes (ofZ w32 z)
 
 -- the bytes from `at` on, `count` of them
 abbrev pub part : List ℕ → ℕ → ℕ → List ℕ
@@ -103,12 +155,12 @@ weightedFrom i (b ∷ l) = (sumsAt - i) * b + weightedFrom (i + 1) l
 -- "508: A, u16, the sum of bytes 0 to 507 modulo 65,536."
 unfoldable pub sumA : List ℕ → ℕ
 unfolding sumOf
-sumA block = sumOf (take sumsAt block) % 65536
+sumA block = sumOf (take sumsAt block) % sumModulus
 
 -- "510: B, u16, the sum of (508 − i) times byte i, i from 0 to 507, same modulus."
 unfoldable pub sumB : List ℕ → ℕ
 unfolding weightedFrom
-sumB block = weightedFrom 0 (take sumsAt block) % 65536
+sumB block = weightedFrom 0 (take sumsAt block) % sumModulus
 
 -- ---- blocks of a file, and the record bytes in them
 
@@ -120,7 +172,7 @@ blockOf file b = part file (blockSize * b) blockSize
 
 -- "482: records in use, u16."
 abbrev pub usedIn : List ℕ → ℕ
-usedIn block = u16At block 482
+usedIn block = u16At block usedAt
 
 -- The bytes of all used records, in order: "Bytes 0 to 479 hold 15 records of 32 bytes."
 unfoldable pub usedBytes : ℕ → List ℕ → List ℕ

@@ -3,6 +3,7 @@ use Prim.Native.Nat.{ℕ, zero, suc, _+_}
 use Prim.Native.String.{String}
 use mathlib.Core.Bool.{Bool, true, false}
 use mathlib.Core.List.{List, [], _∷_, _++_}
+use mathlib.Core.Path.{_≡_}
 use Rattle.model.specs.declared.Refusal.{Refusal}
 use Rattle.model.specs.declared.Outcome.{Outcome}
 use Rattle.model.specs.declared.Outcome.the-variants.{Done, Refused}
@@ -31,6 +32,10 @@ number askedOutOfRange = 15
 number runFull = 16
 number recordCount = 17
 number wrongRoom = 18
+
+-- the last number of the table
+abbrev pub lastNumber : ℕ
+lastNumber = 18
 
 -- the table's words, for messages; the conditions themselves are the rules of the chapters
 unfoldable pub sentence : Reason → String
@@ -70,6 +75,11 @@ rule why place holds = record { why = why; place = place; holds = holds }
 -- a rule whose refusal has no place
 abbrev pub rule₀ : Reason → Bool → Rule
 rule₀ why holds = rule why 0 holds
+
+-- each rule of the list gives a number for which the test holds
+pub data Gives (test : ℕ → Bool) : List Rule → Type 0 where
+  none : Gives test []
+  more : {r : Rule} {rs : List Rule} → test (number (r .why)) ≡ true → Gives test rs → Gives test (r ∷ rs)
 
 -- the refusal where a rule does not hold, and else the outcome of the rules after it
 unfoldable pub orRefused : Bool → Reason → ℕ → Outcome → Outcome

@@ -113,7 +113,7 @@ directionOf Arc t = record { along = cosine t; aside = sine t }
 directionOf EntrySpiral t = record { along = cosine t; aside = sine t }
 directionOf ExitSpiral t = record { along = cosine t; aside = negℤ (sine t) }
 
--- "s is the mm from the element's start, 0 to L."
+-- l at s, where "s is the mm from the element's start, 0 to L."
 unfoldable pub lengthAt : Element → ℕ → ℕ
 unfolding fromAnchor
 lengthAt e s = fromAnchor (e .kind) (e .length) s

@@ -3,19 +3,13 @@ use Prim.Native.Nat.{ℕ, _+_, _-_}
 use mathlib.Core.Bool.{Bool, true, false, _&&_}
 use mathlib.Core.List.{List, [], _∷_}
 use lib.Dec.{leb, ltb}
-use lib.ListN.{take}
 use lib.IntN.{ℤ, pos, natAbs, _-ℤ_}
 use lib.Signed.{nonNeg}
 use Rattle.integers.specs.Plane.{squared}
 use Rattle.model.specs.declared.Kind.the-variants.{Line}
 use Rattle.model.specs.declared.Element.{Element}
-use Rattle.model.specs.declared.Alignment.{Alignment}
 use Rattle.model.specs.declared.Point.{Point}
 use Rattle.model.specs.Series.{positionOn, tangentOn}
-
--- the elements of an alignment by value: the first `count`
-unfoldable pub used : Alignment → List Element
-used a = take (a .count) (a .elements)
 
 -- "The alignment's stations run from 0 to T, the sum of lengths."
 unfoldable pub total : List Element → ℕ
@@ -27,10 +21,14 @@ unfoldable pub isStation : List Element → ℤ → Bool
 unfolding total
 isStation es s = nonNeg s && leb (natAbs s) (total es)
 
--- where a station lies: its element, and "s .. the mm from the element's start"
+-- where a station lies: its element, with its number counted from 0, and "s .. the mm from the element's start"
 pub record AtElement : Type 0 where
+  pub number : ℕ
   pub element : Element
   pub s : ℕ
+
+abbrev pub atElement : ℕ → Element → ℕ → AtElement
+atElement i e s = record { number = i; element = e; s = s }
 
 -- what stands for an element where there is none: no accepted alignment is empty
 abbrev pub noElement : Element
@@ -40,18 +38,18 @@ unfoldable pub atIf : Bool → AtElement → AtElement → AtElement
 atIf true a b = a
 atIf false a b = b
 
--- "A station at a join belongs to the later element (source document 000: 0 ≤ l < L); T belongs to the last."
-unfoldable pub atFrom : Element → List Element → ℕ → AtElement
+-- "A station at a join belongs to the later element (source document 000: 0 ≤ l < L); T belongs to the last.": of elements of which the first has the number i
+unfoldable pub atFrom : ℕ → List Element → ℕ → AtElement
 unfolding atIf
-atFrom e [] s = record { element = e; s = s }
-atFrom e (f ∷ es) s =
-    let later = atFrom f es (s - e .length) in
-    atIf (ltb s (e .length)) (record { element = e; s = s }) later
+atFrom i [] s = atElement i noElement s
+atFrom i (e ∷ []) s = atElement i e s
+atFrom i (e ∷ f ∷ es) s =
+    let later = atFrom (i + 1) (f ∷ es) (s - e .length) in
+    atIf (ltb s (e .length)) (atElement i e s) later
 
 unfoldable pub atStation : List Element → ℕ → AtElement
 unfolding atFrom
-atStation [] s = record { element = noElement; s = s }
-atStation (e ∷ es) s = atFrom e es s
+atStation es s = atFrom 0 es s
 
 -- "the position (X, Y) at station s"
 unfoldable pub positionAt : List Element → ℕ → Point

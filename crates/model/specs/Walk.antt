@@ -1,7 +1,6 @@
 -- Document 01, "The walk": the stations that both passes visit, in their order.
-use Prim.Native.Nat.{ℕ, zero, suc, _+_, _-_, _/_, _%_, _≤_, min}
+use Prim.Native.Nat.{ℕ, zero, suc, _+_, _-_, _/_, _%_, min}
 use mathlib.Core.Bool.{Bool, true, false, cond}
-use mathlib.Core.Path.{_≡_}
 use mathlib.Core.List.{List, [], _∷_, _++_}
 use lib.ListN.{length}
 use lib.Dec.{eqb}
@@ -56,17 +55,6 @@ unfoldable pub ownStations : Element → List Element → ℕ
 ownStations e [] = e .length + 1
 ownStations e (f ∷ es) = e .length
 
--- each element's first station, and after the last one's T + 1: an element's own stations run from its bound up to the next. "A station at a join belongs to the later
--- element"; "a step beyond an element's last own station goes to the next element's first"
-unfoldable pub boundsFrom : ℕ → List Element → List ℕ
-unfolding ownStations
-boundsFrom s [] = s ∷ []
-boundsFrom s (e ∷ es) = s ∷ boundsFrom (s + ownStations e es) es
-
-unfoldable pub bounds : List Element → List ℕ
-unfolding boundsFrom
-bounds es = boundsFrom 0 es
-
 -- "Then from station 0 .. after the last element the walk ends": from the first of the elements, whose first station is s
 unfoldable pub secondFrom : (ℕ → ℕ) → List Element → ℕ → ℕ → List ℕ
 unfolding elementVisits ownStations bestOf
@@ -92,11 +80,7 @@ unfoldable pub visitCount : List Element → Point → ℕ
 unfolding visits
 visitCount es p = length (visits es p)
 
+-- whether a station is among the visited ones
 unfoldable pub isIn : ℕ → List ℕ → Bool
 isIn s [] = false
 isIn s (v ∷ vs) = cond (eqb s v) true (isIn s vs)
-
--- a station on the alignment that the second pass does not visit
-pub record LeftOut (es : List Element) (p : Point) (s : ℕ) : Type 0 where
-  pub on : s ≤ total es
-  pub unvisited : isIn s (secondVisits es p) ≡ false

@@ -6,7 +6,7 @@ use lib.ListN.{length, take, drop, replicate}
 use lib.Dec.{leb, eqb}
 use Rattle.model.specs.declared.Outcome.{Outcome}
 use Rattle.model.specs.declared.Outcome.the-variants.{Done, Refused}
-use Rattle.model.specs.Records.{blockSize, recordSize, mostRecords, edition, zeroCount, recordsEnd, perBlock, put, u16Bytes, u32Bytes, sumA, sumB, countOf}
+use Rattle.model.specs.Records.{blockSize, recordSize, mostRecords, edition, zeroCount, recordsEnd, fieldsAt, perBlock, put, u16Bytes, u32Bytes, sumA, sumB, countOf}
 use Rattle.model.specs.Refusals.{Rule, rule₀, verdict, recordCount, wrongRoom}
 use Rattle.model.specs.Acceptance.{recordsRules}
 
@@ -15,7 +15,7 @@ use Rattle.model.specs.Acceptance.{recordsRules}
 -- Bytes 0 to 507 of block b, whose records are the given bytes, 15 at most: the records, zero up to 480, "480: block number .. 482: records in use .. 484: edition, u32, is 1. 488 to 507: zero."
 unfoldable pub blockBody : ℕ → List ℕ → List ℕ
 blockBody b records =
-    records ++ (replicate (recordsEnd - length records) 0 ++ (u16Bytes b ++ (u16Bytes (countOf records) ++ (u32Bytes edition ++ replicate zeroCount 0))))
+    records ++ (replicate (fieldsAt - length records) 0 ++ (u16Bytes b ++ (u16Bytes (countOf records) ++ (u32Bytes edition ++ replicate zeroCount 0))))
 
 -- "508: A .. 510: B": the body with its two sums
 unfoldable pub withSums : List ℕ → List ℕ
@@ -36,7 +36,7 @@ blocksFrom (suc n) b records = block b (take recordsEnd records) ++ blocksFrom n
 abbrev pub blocksNeeded : List ℕ → ℕ
 blocksNeeded records = (countOf records + (perBlock - 1)) / perBlock
 
--- the one file of these records; demand 2: "a crest has one file only."
+-- the one file of these records; demand 2: "the file of a crest is the one file possible"
 unfoldable pub fileOf : List ℕ → List ℕ
 unfolding blocksFrom
 fileOf records = blocksFrom (blocksNeeded records) 0 records

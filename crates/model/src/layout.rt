@@ -1,5 +1,5 @@
 // Where things lie in lent bytes: document 01, "The crest file", and the run and the move of "Readings and the run". The names are those
-// of specs/Records.antt and specs/Run.antt, where these give a number a name.
+// of specs/Records.antt, specs/Run.antt and specs/Calls.antt, where these give a number a name.
 
 // "Blocks of 512 bytes, little-endian, 1 to 4 of them."
 pub const BLOCK_SIZE: usize = 512;
@@ -21,7 +21,7 @@ pub const RECORD_SIZE: usize = 32;
 pub const MOST_RECORDS: usize = 60;
 
 // "480: block number, u16, from 0. 482: records in use, u16. 484: edition, u32, is 1. 488 to 507: zero."
-pub const BLOCK_NUMBER_AT: usize = RECORDS_END;
+pub const FIELDS_AT: usize = 480;
 
 pub const USED_AT: usize = 482;
 
@@ -45,7 +45,7 @@ pub const KIND_AT: usize = 0;
 
 pub const FIRST_ZEROS_AT: usize = 1;
 
-pub const LENGTH_AT: usize = 4;
+pub const RECORD_LENGTH_AT: usize = 4;
 
 pub const X_AT: usize = 8;
 
@@ -71,7 +71,7 @@ pub const LATEST_AT: usize = 4;
 
 pub const FIRST_AT: usize = 6;
 
-pub const READING_AT: usize = 8;
+pub const FIRST_READING_AT: usize = 8;
 
 pub const ONE_AT: usize = 12;
 

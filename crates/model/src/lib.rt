@@ -1,6 +1,5 @@
 // The types of the crest library, what a kind byte says, and document 01's numbers under their names: layout, limits, refusals,
 // units. Every definition of document 01 over them is in specs/.
-use crate::layout::MOST_RECORDS;
 ghost use mathlib.Core.Path.{_≡_};
 ghost use Rattle.model.specs.Kinds.{decide};
 
@@ -48,12 +47,6 @@ pub struct Element {
     pub c: i64,
     pub s: i64,
     pub radius: i64,
-}
-
-// The elements of an accepted crest: the first `count` of the array.
-pub struct Alignment {
-    pub elements: [Element; MOST_RECORDS],
-    pub count: usize,
 }
 
 // A point of the plane, in grains.

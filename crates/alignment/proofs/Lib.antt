@@ -1,8 +1,5 @@
--- An alignment from bytes.
-pub mod AcceptGathered
-pub mod AcceptRecords
-pub mod AcceptOrders
-pub mod AcceptCrest
+-- The check.
+pub mod CheckOrders
 -- The writer.
 pub mod WriteOrders
 -- The reader.

@@ -1,49 +1,52 @@
--- The writer's order in steps: the number of bytes, the rules of the records, the room; and what it leaves in the room.
-use Prim.Native.Nat.{ℕ, _*_, _≤_}
-use mathlib.Core.Bool.{true, false}
-use mathlib.Core.List.{List, [], _∷_, _++_}
+-- The writer's order in steps: the rules of the records in a row, the room; and what it leaves in the room.
+use Prim.Native.Nat.{ℕ, _*_, _≤_, _<_}
+use mathlib.Core.Bool.{true}
+use mathlib.Core.List.{List, [], _∷_}
 use mathlib.Core.Path.{_≡_, sym, ap, _∙_}
+use borrow.Author.Tests.{le-leb, lt-leb}
 use lib.Dec.{leb}
 use lib.ListN.{length}
 use Rattle.model.specs.declared.Refusal.{Refusal}
 use Rattle.model.specs.declared.Outcome.{Outcome}
 use Rattle.model.specs.declared.Outcome.the-variants.{Done, Refused}
 use Rattle.model.specs.Records.{put}
-use Rattle.model.specs.Refusals.{Rule, rule₀, refusal, verdict, recordCount, wrongRoom}
-use Rattle.model.specs.Acceptance.{recordsRules}
+use Rattle.model.specs.Refusals.{Rule, rule₀, refusal, verdict, wrongRoom}
+use Rattle.model.specs.Crest.{checkOf}
 use Rattle.model.specs.Writer.{blocksNeeded, countFits, fileOf, writerRules, writerOutcome, roomAfter, written}
-use Rattle.model.proofs.Verdict.{verdict-after, refused-before, done→all}
-use Rattle.crestfile.proofs.ForEach.{append-all, holds-one}
+use Rattle.model.proofs.Verdict.{verdict-after, refused-before}
 use Rattle.crestfile.proofs.Orders.{one-done, one-refused}
-use Rattle.crestfile.proofs.WriterRules.{writer-done}
-
-abbrev counted : List ℕ → List Rule
-counted records = rule₀ recordCount (countFits (length records)) ∷ []
-
-abbrev roomy : List ℕ → ℕ → List Rule
-roomy records room = rule₀ wrongRoom (leb (512 * blocksNeeded records) room) ∷ []
+use Rattle.crestfile.proofs.WriterRules.{rulesButRoom, writer-done}
+use Rattle.sources.specs.declared.Form.the-variants.{Row}
+use Rattle.sources.specs.Sources.{layoutRules, recordsIn, crestIn}
+use Rattle.sources.proofs.Records.{records-fit}
+use Rattle.sources.proofs.Sound.{rules-accepted}
 
 module _ (records : List ℕ) (room : ℕ) where
-  pub count-refused : countFits (length records) ≡ false → writerOutcome records room ≡ Refused (refusal recordCount 0)
-  unfolding writerOutcome writerRules
-  count-refused e = refused-before (counted records) (recordsRules records ++ roomy records room) (one-refused recordCount 0 e)
+  -- 18, of the room
+  abbrev roomy : List Rule
+  roomy = rule₀ wrongRoom (leb (512 * blocksNeeded records) room) ∷ []
 
-  after-count : countFits (length records) ≡ true → writerOutcome records room ≡ verdict (recordsRules records ++ roomy records room)
-  unfolding writerOutcome writerRules
-  after-count e = verdict-after (counted records) (recordsRules records ++ roomy records room) (one-done recordCount 0 e)
+  pub records-refused : {x : Refusal} → checkOf (crestIn Row records []) ≡ Refused x → writerOutcome records room ≡ Refused x
+  unfolding writerOutcome writerRules layoutRules recordsIn
+  records-refused e = refused-before (rulesButRoom records) roomy e
 
-  pub records-refused : {x : Refusal} → countFits (length records) ≡ true → verdict (recordsRules records) ≡ Refused x → writerOutcome records room ≡ Refused x
-  records-refused e r = after-count e ∙ refused-before (recordsRules records) (roomy records room) r
+  room-decides : checkOf (crestIn Row records []) ≡ Done → writerOutcome records room ≡ verdict roomy
+  unfolding writerOutcome writerRules layoutRules recordsIn
+  room-decides e = verdict-after (rulesButRoom records) roomy e
 
-  pub room-decides : countFits (length records) ≡ true → verdict (recordsRules records) ≡ Done → writerOutcome records room ≡ verdict (roomy records room)
-  room-decides e d = after-count e ∙ verdict-after (recordsRules records) (roomy records room) d
+  pub room-fits : checkOf (crestIn Row records []) ≡ Done → 512 * blocksNeeded records ≤ room → writerOutcome records room ≡ Done
+  room-fits e h = room-decides e ∙ one-done wrongRoom 0 (le-leb _ _ h)
+
+  pub room-refused : checkOf (crestIn Row records []) ≡ Done → room < 512 * blocksNeeded records → writerOutcome records room ≡ Refused (refusal wrongRoom 0)
+  room-refused e h = room-decides e ∙ one-refused wrongRoom 0 (lt-leb _ _ h)
+
+  pub done-fits : writerOutcome records room ≡ Done → (countFits (length records) ≡ true) × (512 * blocksNeeded records ≤ room)
+  unfolding layoutRules recordsIn
+  done-fits e =
+      let d = writer-done records room .0 e in
+      (records-fit Row records [] (rules-accepted Row records [] (d .0) .readable), d .1)
 
 -- ---- the room
-
-pub done-fits : (records : List ℕ) (room : ℕ) → writerOutcome records room ≡ Done → (countFits (length records) ≡ true) × (512 * blocksNeeded records ≤ room)
-done-fits records room e =
-    let d = writer-done records room .0 e in
-    (holds-one (append-all (counted records) {q = recordsRules records} (done→all _ (d .0)) .0), d .1)
 
 pub room-done : (records room : List ℕ) → writerOutcome records (length room) ≡ Done → put room 0 (fileOf records) ≡ written records room
 unfolding written roomAfter

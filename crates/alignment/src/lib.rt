@@ -1,4 +1,4 @@
-// A crest alignment by value: made of a file's or of record bytes, its joins checked, and written back to a file.
-pub mod accept;
+// The check of a crest, a record of a file where it lies, and record bytes written to a file.
+pub mod check;
 pub mod part;
 pub mod write;

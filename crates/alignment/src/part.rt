@@ -1,12 +1,11 @@
-// The reader: a record as a part of the lent file.
-use crate::accept::check;
-use crate::accept::start_in;
-use blocks::part_at;
-use crestfile::check::record_count;
+// The reader: a record as a part of the lent file, beside which no amendment is lent.
+use crate::check::check;
 use model::Outcome;
-use model::layout::RECORD_SIZE;
 use model::refusals;
 use records::refused;
+use sources::Form;
+use sources::count_in;
+use sources::record_in;
 ghost use mathlib.Core.Path.{_≡_};
 ghost use Rattle.model.specs.Answers.{readerOutcome, readerSpan, readerPart};
 ghost use Rattle.alignment.specs.Lent.{Lent};
@@ -15,11 +14,12 @@ ghost use Rattle.alignment.specs.Lent.{Lent};
 pub fn record_outcome(file: &[u8], r: usize) -> Outcome
     ensures { λ o. ⌜ o ≡ readerOutcome (now (file .entry)) r ⌝ }
 {
-    match check(file) {
+    let none = &file[0..0];
+    match check(file, none, Form::File) {
         Outcome::Refused(x) => return Outcome::Refused(x),
         Outcome::Done => {}
     }
-    if r < record_count(file) {
+    if r < count_in(file, none, Form::File) {
         return Outcome::Done;
     }
     refused(refusals::ASKED_OUT_OF_RANGE, 0)
@@ -30,8 +30,9 @@ pub fn record_part(file: &[u8], r: usize) -> &[u8]
     ensures { λ p. ⌜ now p ≡ readerPart (now (file .entry)) r ⌝ }
     ensures lent { λ p. ⌜ Lent (file .entry) (readerSpan (now (file .entry)) r) p ⌝ }
 {
+    let none = &file[0..0];
     match record_outcome(file, r) {
-        Outcome::Refused(_) => part_at(file, 0, 0),
-        Outcome::Done => part_at(file, start_in(true, r), RECORD_SIZE),
+        Outcome::Refused(_) => none,
+        Outcome::Done => record_in(file, none, Form::File, r),
     }
 }

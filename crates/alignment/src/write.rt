@@ -1,14 +1,12 @@
 // The writer: the file of record bytes, into lent room.
-use crate::accept::of_records;
-use crestfile::check::check_record_bytes;
+use crate::check::check;
 use crestfile::write::blocks_needed;
-use crestfile::write::count_fits;
 use crestfile::write::write_blocks;
-use joins::check_joins;
 use model::Outcome;
 use model::layout::BLOCK_SIZE;
 use model::refusals;
 use records::refused;
+use sources::Form;
 ghost use mathlib.Core.Path.{_≡_};
 ghost use lib.ListN.{length};
 ghost use Rattle.model.specs.Writer.{writerOutcome, written};
@@ -17,21 +15,11 @@ ghost use Rattle.model.specs.Writer.{writerOutcome, written};
 fn outcome_of(records: &[u8], room: usize) -> Outcome
     ensures { λ o. ⌜ o ≡ writerOutcome (now (records .entry)) room ⌝ }
 {
-    let len = records.len();
-    let needed = BLOCK_SIZE * blocks_needed(len);
-    let fits = count_fits(len);
-    if !fits {
-        return refused(refusals::RECORD_COUNT, 0);
-    }
-    match check_record_bytes(records) {
-        Outcome::Refused(own) => return Outcome::Refused(own),
+    match check(records, &records[0..0], Form::Row) {
+        Outcome::Refused(x) => return Outcome::Refused(x),
         Outcome::Done => {}
     }
-    match check_joins(of_records(records)) {
-        Outcome::Refused(join) => return Outcome::Refused(join),
-        Outcome::Done => {}
-    }
-    if room < needed {
+    if room < BLOCK_SIZE * blocks_needed(records.len()) {
         return refused(refusals::WRONG_ROOM, 0);
     }
     Outcome::Done

@@ -82,7 +82,7 @@ pub fn fields_fit(n: usize, b: usize, block: &[u8]) -> bool
     requires { ⌜ b < n ⌝ }
     ensures { λ r. ⌜ r ≡ fieldsFit n b (now (block .entry)) ⌝ }
 {
-    let number = fields::u16_at(block, layout::BLOCK_NUMBER_AT) as usize;
+    let number = fields::u16_at(block, layout::FIELDS_AT) as usize;
     if number != b {
         return false;
     }
@@ -96,7 +96,7 @@ pub fn fields_fit(n: usize, b: usize, block: &[u8]) -> bool
     if !all_zero(&block[layout::ZEROS_AT..layout::SUMS_AT]) {
         return false;
     }
-    all_zero(&block[layout::RECORD_SIZE * used..layout::RECORDS_END])
+    all_zero(&block[layout::RECORD_SIZE * used..layout::FIELDS_AT])
 }
 
 // Bytes copied over the room's from `at` on.
@@ -132,8 +132,8 @@ fn write_body(room: &mut [u8], b: usize, records: &[u8])
 {
     let n = records.len();
     copy_at(room, 0, records);
-    clear_at(room, n, layout::RECORDS_END - n);
-    fields::put_u16(room, layout::BLOCK_NUMBER_AT, b as u16);
+    clear_at(room, n, layout::FIELDS_AT - n);
+    fields::put_u16(room, layout::FIELDS_AT, b as u16);
     fields::put_u16(room, layout::USED_AT, (n / layout::RECORD_SIZE) as u16);
     fields::put_u32(room, layout::EDITION_AT, layout::EDITION);
     clear_at(room, layout::ZEROS_AT, layout::ZERO_COUNT);

@@ -9,3 +9,4 @@ pub mod Part
 pub mod Orders
 pub mod Count
 pub mod PutBlocks
+pub mod Placed

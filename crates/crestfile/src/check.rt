@@ -1,4 +1,4 @@
-// The refusals of a crest file by its bytes, in their order: its length, its blocks, its records.
+// The refusals of a crest file by its length and its blocks, in their order; how many records are in it, and where each starts.
 use blocks::fields_fit;
 use blocks::part_at;
 use blocks::sums_agree;
@@ -11,17 +11,14 @@ use model::layout::THREE_BLOCKS;
 use model::layout::TWO_BLOCKS;
 use model::layout::USED_AT;
 use model::refusals;
-use records::check_record;
 use records::refused;
-ghost use mathlib.Core.Bool.{true};
 ghost use mathlib.Core.List.{[], _∷_};
 ghost use mathlib.Core.Path.{_≡_};
 ghost use Prim.Native.Nat.{_≤_, _<_};
 ghost use lib.ListN.{length};
-ghost use Rattle.model.specs.Records.{recordStart, recordBytes, countOf, recordOf};
-ghost use Rattle.model.specs.Refusals.{rule₀, verdict, forEach, byteCount};
-ghost use Rattle.model.specs.Acceptance.{lengthFits, blocksRules, recordRules};
-ghost use Rattle.model.specs.Writer.{countFits};
+ghost use Rattle.model.specs.Records.{recordStart, recordBytes, countOf};
+ghost use Rattle.model.specs.Refusals.{rule₀, verdict, byteCount};
+ghost use Rattle.model.specs.Acceptance.{lengthFits, blocksRules};
 ghost use Rattle.crestfile.specs.BlockChecks.{blockRules, eachBlock};
 
 // 1: a crest is 512, 1024, 1536 or 2048 bytes long.
@@ -110,39 +107,4 @@ pub fn record_start(r: usize) -> usize
     ensures { λ n. ⌜ n ≡ recordStart r ⌝ }
 {
     BLOCK_SIZE * (r / PER_BLOCK) + RECORD_SIZE * (r % PER_BLOCK)
-}
-
-// 4 to 7: every record of a file whose blocks are accepted, where it stands in the file.
-pub fn check_records(file: &[u8]) -> Outcome
-    requires { ⌜ verdict (blocksRules (now file)) ≡ Outcome.Done ⌝ }
-    ensures { λ o. ⌜ o ≡ verdict (forEach (λ r. recordRules (recordOf (recordBytes (now (file .entry))) r) r) (countOf (recordBytes (now (file .entry)))) 0) ⌝ }
-{
-    let n = record_count(file);
-    let mut r = 0;
-    while r < n {
-        let at = record_start(r);
-        match check_record(part_at(file, at, RECORD_SIZE), r as u32) {
-            Outcome::Refused(x) => return Outcome::Refused(x),
-            Outcome::Done => {}
-        }
-        r += 1;
-    }
-    Outcome::Done
-}
-
-// 4 to 7: every record of record bytes that are 1 to 60 records.
-pub fn check_record_bytes(records: &[u8]) -> Outcome
-    requires { ⌜ countFits (length (now records)) ≡ true ⌝ }
-    ensures { λ o. ⌜ o ≡ verdict (forEach (λ r. recordRules (recordOf (now (records .entry)) r) r) (countOf (now (records .entry))) 0) ⌝ }
-{
-    let n = records.len() / RECORD_SIZE;
-    let mut r = 0;
-    while r < n {
-        match check_record(part_at(records, RECORD_SIZE * r, RECORD_SIZE), r as u32) {
-            Outcome::Refused(x) => return Outcome::Refused(x),
-            Outcome::Done => {}
-        }
-        r += 1;
-    }
-    Outcome::Done
 }

@@ -1,3 +1,3 @@
-// The crest file: blocks and records, their refusals, and the file of record bytes.
+// The crest file: its blocks and their refusals, where its records start, and the file of record bytes.
 pub mod check;
 pub mod write;

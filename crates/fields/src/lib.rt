@@ -6,8 +6,7 @@ ghost use Prim.Native.Nat.{_+_, _≤_, _<_};
 ghost use lib.ListN.{length};
 ghost use mir.Syntax.{w32};
 ghost use mir.Val.{toZ, ofZ};
-ghost use Rattle.model.specs.Records.{u16At, u32At, i32At, u16Bytes, u32Bytes, put};
-ghost use Rattle.model.specs.Run.{i32Bytes};
+ghost use Rattle.model.specs.Records.{u16At, u32At, i32At, u16Bytes, u32Bytes, put, i32Bytes};
 
 // A byte, wide.
 fn wide(x: u8) -> u32

@@ -1,13 +1,10 @@
--- The joins of elements that lie in a list, and of two placements.
-use Prim.Native.Nat.{ℕ, _+_, _-_, _<_, _^_}
+-- The join of two placements.
+use Prim.Native.Nat.{ℕ, _<_, _^_}
 use mathlib.Core.List.{List, [], _∷_}
 use lib.IntN.{ℤ, natAbs}
-use lib.ListN.{length, getD}
-use Rattle.model.specs.declared.Element.{Element}
 use Rattle.model.specs.declared.Point.{Point}
-use Rattle.model.specs.Refusals.{Rule, rule, forEach, gap, kink}
-use Rattle.model.specs.Acceptance.{widestGap, widestKink, closeBy, joinRules}
-use Rattle.model.specs.Stations.{noElement}
+use Rattle.model.specs.Refusals.{Rule, rule, gap, kink}
+use Rattle.model.specs.Acceptance.{widestGap, widestKink, closeBy}
 use Rattle.elements.specs.declared.Placement.{Placement}
 
 -- the numbers of a placement are small enough to be subtracted in 64 bits
@@ -36,8 +33,3 @@ unfoldable pub placedRules : Placement → Placement → ℕ → List Rule
 unfolding closeBy
 placedRules last first r =
     rule gap r (closeBy widestGap (positionIn last) (positionIn first)) ∷ rule kink r (closeBy widestKink (directionIn last) (directionIn first)) ∷ []
-
--- "then joins from the first": the joins of an alignment's elements
-unfoldable pub joinsRules : List Element → List Rule
-unfolding forEach joinRules
-joinsRules es = forEach (λ r. joinRules (getD es r noElement) (getD es (r + 1) noElement) r) (length es - 1) 0

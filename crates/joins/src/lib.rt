@@ -1,20 +1,21 @@
-// The joins of an alignment: gaps and kinks between an element and the next.
+// The joins of a crest: gaps and kinks between an element and the next.
 use elements::Placement;
 use integers::magnitude;
-use model::Alignment;
 use model::Outcome;
 use model::Point;
 use model::limits;
 use model::refusals;
 use records::refused;
+use sources::Form;
+use sources::count_in;
+use sources::element_in;
 ghost use mathlib.Core.Path.{_≡_};
 ghost use lib.Dec.{leb};
 ghost use lib.IntN.{natAbs, _-ℤ_};
 ghost use Rattle.model.specs.Refusals.{verdict};
-ghost use Rattle.model.specs.Acceptance.{closeBy};
-ghost use Rattle.model.specs.Stations.{used};
-ghost use Rattle.model.specs.Accepted.{AlignmentAccepted};
-ghost use Rattle.joins.specs.Joins.{Small, SmallPoint, SmallPlacement, positionIn, directionIn, placedRules, joinsRules};
+ghost use Rattle.model.specs.Acceptance.{closeBy, eachJoin};
+ghost use Rattle.sources.specs.Sources.{recordsIn, SourceAccepted};
+ghost use Rattle.joins.specs.Joins.{Small, SmallPoint, SmallPlacement, positionIn, directionIn, placedRules};
 
 // Whether two numbers differ by at most n.
 fn close(n: u64, a: i64, b: i64) -> bool
@@ -69,17 +70,16 @@ fn check_join(last: Placement, first: Placement, r: u32) -> Outcome
 }
 
 // 8 and 9: every join of elements that are accepted one by one. An element is prepared once, and its end is kept for the join after it.
-pub fn check_joins(a: Alignment) -> Outcome
-    requires { ⌜ AlignmentAccepted a ⌝ }
-    ensures { λ o. ⌜ o ≡ verdict (joinsRules (used a)) ⌝ }
+pub fn check_joins(crest: &[u8], amendment: &[u8], form: Form) -> Outcome
+    requires { ⌜ SourceAccepted form (now crest) (now amendment) ⌝ }
+    ensures { λ o. ⌜ o ≡ verdict (eachJoin (recordsIn form (now (crest .entry)) (now (amendment .entry)))) ⌝ }
 {
-    let els = a.elements;
-    let count = a.count;
-    let head = els[0];
+    let count = count_in(crest, amendment, form);
+    let head = element_in(crest, amendment, form, 0);
     let mut last = elements::placed(elements::prepare(head), head.length);
     let mut r: usize = 0;
     while r + 1 < count {
-        let e = els[r + 1];
+        let e = element_in(crest, amendment, form, r + 1);
         let p = elements::prepare(e);
         match check_join(last, elements::placed(p, 0), r as u32) {
             Outcome::Refused(x) => return Outcome::Refused(x),

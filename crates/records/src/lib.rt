@@ -127,7 +127,7 @@ pub fn element(rec: &[u8]) -> Element
 {
     Element {
         kind: kind_in(rec[layout::KIND_AT]),
-        length: fields::u32_at(rec, layout::LENGTH_AT) as u64,
+        length: fields::u32_at(rec, layout::RECORD_LENGTH_AT) as u64,
         x: wide_at(rec, layout::X_AT),
         y: wide_at(rec, layout::Y_AT),
         c: wide_at(rec, layout::C_AT),
@@ -141,7 +141,7 @@ fn reserved_zero(rec: &[u8]) -> bool
     requires { ⌜ length (now rec) ≡ 32 ⌝ }
     ensures { λ r. ⌜ r ≡ reservedZero (now (rec .entry)) ⌝ }
 {
-    if !all_zero(&rec[layout::FIRST_ZEROS_AT..layout::LENGTH_AT]) {
+    if !all_zero(&rec[layout::FIRST_ZEROS_AT..layout::RECORD_LENGTH_AT]) {
         return false;
     }
     all_zero(&rec[layout::LAST_ZEROS_AT..layout::RECORD_SIZE])

@@ -1,103 +1,103 @@
--- `joins::check_joins` meets its contract. The loop's invariant: the joins before `r` refuse nothing, and `last` is where element `r` ends.
+-- `joins::check_joins` meets its contract. The loop's invariant: the joins before `r` refuse nothing, and `last` is where the element of record `r` ends.
 use Prim.Native.Nat.{_+_, _-_}
 use mathlib.Core.Path.{_≡_, sym, ap, _∙_}
 use native.Mathlib.Omega.{arith}
 use borrow.Author.Needs.{needs}
-use lib.ListN.{getD, take}
 use Rattle.model.specs.declared.Element.{Element}
 use Rattle.model.specs.Refusals.{verdict}
-use Rattle.model.specs.Stations.{used, noElement}
+use Rattle.model.specs.Acceptance.{eachJoin}
 use Rattle.crestfile.proofs.Orders.{left-all, left-next, left-refused, left-none}
-use Rattle.joins.specs.Joins.{joinsRules}
-use Rattle.joins.proofs.JoinElements.{length-mapped, Usable, used-length, element-accepted, placedOn, prepared-placed, prepared-length, small-placed, joinAt, Joined, join-here}
+use Rattle.sources.specs.Sources.{recordsIn}
+use Rattle.sources.proofs.RecordsRead.{elementIn, RecordsRead, read-asks, read-count, read-accepted}
+use Rattle.joins.proofs.JoinElements.{placedOn, prepared-placed, prepared-length, small-placed, joinAt, Joined, join-here}
 use Rattle.joins.proofs.check_joins.Statement.{statement}
 use Rattle.joins.proofs.check_joins.Tie as tie
 
 abbrev Inv-loop : tie.InvT-loop
-Inv-loop els count last₀ r₀ last r = Joined els count last r
+Inv-loop crest amendment form count last₀ r₀ last r = Joined form crest amendment count last r
 
 abbrev μ-loop : tie.MeasureT-loop
-μ-loop els count last₀ r₀ last r = count - r
+μ-loop crest amendment form count last₀ r₀ last r = count - r
 
-usable : (s : tie.Start Inv-loop μ-loop) → Usable (s .args .a .elements) (s .args .a .count)
-unfolding used
-usable s = record { room = search length-mapped depth 8; some = s .pre .some; most = s .pre .most; each = s .pre .each }
+count-in-requires : tie.Need-count-in-requires Inv-loop μ-loop
+count-in-requires c κs = c .before .before .pre .readable
 
-array-copy-out-head : tie.Need-array-copy-out-head Inv-loop μ-loop
-array-copy-out-head c = omega arith
+reading : (c : tie.After-count-in Inv-loop μ-loop) → let a = c .before .before .before .args in RecordsRead (a .form) (a .crest .now) (a .amendment .now) (c .count-in .result)
+reading c = record { source = c .before .before .before .pre; all = c .count-in .ensures }
+
+element-in-requires : tie.Need-element-in-requires Inv-loop μ-loop
+element-in-requires c κs = let r = reading c in read-asks r 0 (read-count r .0)
 
 prepare-requires : tie.Need-prepare-requires Inv-loop μ-loop
-prepare-requires c κs = element-accepted (usable (c .before .before)) 0 (c .before .before .pre .some)
+prepare-requires c κs = let r = reading (c .before) in rw (c .element-in .ensures) (read-accepted r 0 (read-count r .0))
 
 placed-requires : tie.Need-placed-requires Inv-loop μ-loop
-placed-requires c κs =
-    let s = c .before .before .before in
-    (c .prepare .ensures .1, omega (arith, prepared-length (getD (s .args .a .elements) 0 noElement) (c .prepare .ensures .0)))
+placed-requires c κs = (c .prepare .ensures .1, omega (arith, prepared-length (c .before .element-in .result) (c .prepare .ensures .0)))
 
 loop-holds : tie.Need-loop-holds Inv-loop μ-loop
 loop-holds c =
-    let s = c .before .before .before .before in
-    let e = getD (s .args .a .elements) 0 noElement in
+    let h = c .before .before in
+    let e = h .element-in .result in
+    let r = reading (h .before) in
     record {
-      usable = usable s;
-      within = s .pre .some;
-      end = prepared-placed e (e .length) (c .before .prepare .ensures .0) (c .placed .ensures);
+      reading = r;
+      within = read-count r .0;
+      end = rw (sym (h .element-in .ensures)) (prepared-placed e (e .length) (c .before .prepare .ensures .0) (c .placed .ensures));
       left = left-all _ _;
     }
 
 add-loop : tie.Need-add-loop Inv-loop μ-loop
-add-loop c = omega (arith, c .loop .inv .within, c .loop .inv .usable .most)
+add-loop c = omega (arith, c .loop .inv .within, read-count (c .loop .inv .reading) .1)
 
-add-e : tie.Need-add-e Inv-loop μ-loop
-add-e c = omega (arith, c .before .loop .inv .usable .most)
+add-element-in : tie.Need-add-element-in Inv-loop μ-loop
+add-element-in c = omega (arith, read-count (c .before .loop .inv .reading) .1)
 
-mul-e : tie.Need-mul-e Inv-loop μ-loop
-mul-e c = omega (arith, c .before .loop .inv .usable .most)
-
-array-copy-out-e : tie.Need-array-copy-out-e Inv-loop μ-loop
-array-copy-out-e c = omega (arith, c .before .loop .inv .usable .most)
-
--- the element after the join
-abbrev next : tie.At-loop Inv-loop μ-loop → Element
-next c = getD (c .before .before .before .before .before .args .a .elements) (c .loop .r + 1) noElement
+element-in-requires-2 : tie.Need-element-in-requires-2 Inv-loop μ-loop
+element-in-requires-2 c κs = let l = c .before .loop in read-asks (l .inv .reading) (l .r + 1) (omega arith)
 
 prepare-requires-2 : tie.Need-prepare-requires-2 Inv-loop μ-loop
 prepare-requires-2 c κs =
     let l = c .before .before .loop in
-    element-accepted (l .inv .usable) (l .r + 1) (omega arith)
+    rw (c .element-in2 .ensures) (read-accepted (l .inv .reading) (l .r + 1) (omega arith))
 
 placed-requires-2 : tie.Need-placed-requires-2 Inv-loop μ-loop
 placed-requires-2 c κs = (c .prepare2 .ensures .1, omega arith)
 
 cast-check-join : tie.Need-cast-check-join Inv-loop μ-loop
-cast-check-join c = omega (arith, c .before .before .before .before .loop .inv .within, c .before .before .before .before .loop .inv .usable .most)
+cast-check-join c =
+    let l = c .before .before .before .before .loop in
+    omega (arith, l .inv .within, read-count (l .inv .reading) .1)
 
--- where it begins
-begins : (c : tie.After-placed2 Inv-loop μ-loop) → c .placed2 .result ≡ placedOn (next (c .before .before .before .before)) 0
-begins c = prepared-placed (next (c .before .before .before .before)) 0 (c .before .prepare2 .ensures .0) (c .placed2 .ensures)
+-- where the next element begins
+begins : (c : tie.After-placed2 Inv-loop μ-loop) → let l = c .before .before .before .before in
+    let a = l .before .before .before .before .before .before .before .args in
+    c .placed2 .result ≡ placedOn (elementIn (a .form) (a .crest .now) (a .amendment .now) (l .loop .r + 1)) 0
+begins c =
+    let n = c .before .before in
+    prepared-placed (n .element-in2 .result) 0 (c .before .prepare2 .ensures .0) (c .placed2 .ensures) ∙ ap (λ (e : Element). placedOn e 0) (n .element-in2 .ensures)
 
 check-join-requires : tie.Need-check-join-requires Inv-loop μ-loop
 check-join-requires c κs =
     let l = c .before .before .before .before .loop in
-    let u = l .inv .usable in
-    (rw (l .inv .end) (small-placed (element-accepted u (l .r) (l .inv .within)) (omega arith)), rw (begins c) (small-placed (element-accepted u (l .r + 1) (omega arith)) (omega arith)))
+    let r = l .inv .reading in
+    (rw (l .inv .end) (small-placed (read-accepted r (l .r) (l .inv .within)) (omega arith)), rw (begins c) (small-placed (read-accepted r (l .r + 1) (omega arith)) (omega arith)))
 
 enum-known-x : tie.Need-enum-known-x Inv-loop μ-loop
 enum-known-x c = search needs
 
 tested : (c : tie.After-check-join Inv-loop μ-loop) → let l = c .before .before .before .before .before in
-    let s = l .before .before .before .before .before in
-    verdict (joinAt (take (s .args .a .count) (s .args .a .elements)) (l .loop .r)) ≡ c .check-join .result
+    let a = l .before .before .before .before .before .before .before .args in
+    verdict (joinAt (recordsIn (a .form) (a .crest .now) (a .amendment .now)) (l .loop .r)) ≡ c .check-join .result
 tested c =
     let l = c .before .before .before .before .before .loop in
-    ap verdict (join-here (l .inv) (omega arith) (begins (c .before))) ∙ sym (c .check-join .ensures)
+    ap verdict (join-here (l .inv) (begins (c .before))) ∙ sym (c .check-join .ensures)
 
 returns : tie.Need-returns Inv-loop μ-loop
-unfolding used joinsRules
+unfolding eachJoin
 returns c =
     let t = c .before .before .before in
     let l = t .before .before .before .before .before .loop in
-    sym (left-refused _ _ (omega (arith, used-length (l .inv .usable))) (tested t ∙ c .before .x .given .1) (l .inv .left))
+    sym (left-refused _ _ (omega (arith, l .inv .reading .all)) (tested t ∙ c .before .x .given .1) (l .inv .left))
 
 enum-told : tie.Need-enum-told Inv-loop μ-loop
 enum-told c = search needs
@@ -105,10 +105,12 @@ enum-told c = search needs
 placed-requires-3 : tie.Need-placed-requires-3 Inv-loop μ-loop
 placed-requires-3 c κs =
     let p = c .before .before .before .before in
-    (p .prepare2 .ensures .1, omega (arith, prepared-length (next (p .before .before .before)) (p .prepare2 .ensures .0)))
+    (p .prepare2 .ensures .1, omega (arith, prepared-length (p .before .element-in2 .result) (p .prepare2 .ensures .0)))
 
 add-r : tie.Need-add-r Inv-loop μ-loop
-add-r c = omega (arith, c .before .before .before .before .before .before .before .before .loop .inv .usable .most)
+add-r c =
+    let l = c .before .before .before .before .before .before .before .before .loop in
+    omega (arith, l .inv .within, read-count (l .inv .reading) .1)
 
 loop-less : tie.Need-loop-less Inv-loop μ-loop
 loop-less c = omega arith
@@ -117,20 +119,21 @@ loop-again : tie.Need-loop-again Inv-loop μ-loop
 loop-again c =
     let t = c .before .before .before in
     let p = t .before .before in
-    let l = p .before .before .before .loop in
-    let e = next (p .before .before .before) in
+    let n = p .before in
+    let l = n .before .before .loop in
+    let e = n .element-in2 .result in
     record {
-      usable = l .inv .usable;
-      within = omega arith;
-      end = prepared-placed e (e .length) (p .prepare2 .ensures .0) (c .placed3 .ensures);
-      left = left-next _ _ (omega (arith, used-length (l .inv .usable))) (tested t ∙ c .before .enum-told .given .1) (l .inv .left);
+      reading = l .inv .reading;
+      within = omega (arith, n .before .loop-test .taken);
+      end = rw (sym (n .element-in2 .ensures)) (prepared-placed e (e .length) (p .prepare2 .ensures .0) (c .placed3 .ensures));
+      left = left-next _ _ (omega (arith, l .inv .reading .all)) (tested t ∙ c .before .enum-told .given .1) (l .inv .left);
     }
 
 returns-2 : tie.Need-returns-2 Inv-loop μ-loop
-unfolding used joinsRules
+unfolding eachJoin
 returns-2 c =
     let l = c .before .loop in
-    sym (left-none _ _ (omega (arith, used-length (l .inv .usable))) (l .inv .left))
+    sym (left-none _ _ (omega (arith, l .inv .reading .all)) (l .inv .left))
 
 pub check-joins-spec : {M : Type 1} → statement M
 check-joins-spec =
@@ -138,14 +141,14 @@ check-joins-spec =
     (tie.spec
     Inv-loop
     μ-loop
-    array-copy-out-head
+    count-in-requires
+    element-in-requires
     prepare-requires
     placed-requires
     loop-holds
     add-loop
-    add-e
-    mul-e
-    array-copy-out-e
+    add-element-in
+    element-in-requires-2
     prepare-requires-2
     placed-requires-2
     cast-check-join

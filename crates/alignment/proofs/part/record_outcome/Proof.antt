@@ -1,16 +1,26 @@
 -- `alignment::part::record_outcome` meets its contract: the file's refusals, then the record's number.
-use mathlib.Core.Path.{_≡_, sym, ap, _∙_}
-use borrow.Author.Tests.{lt-ltb, le-ltb}
+use mathlib.Core.List.{[]}
+use mathlib.Core.Path.{_≡_, sym, _∙_}
+use native.Mathlib.Omega.{arith}
 use borrow.Author.Needs.{needs}
-use lib.Dec.{ltb}
 use Rattle.model.specs.declared.Outcome.the-variants.{Done}
-use Rattle.model.specs.Refusals.{refusal, number, askedOutOfRange}
-use Rattle.model.specs.Acceptance.{checked}
-use Rattle.crestfile.proofs.Crest.{accepted→blocks}
-use Rattle.crestfile.proofs.Orders.{one-done, one-refused}
-use Rattle.alignment.proofs.PartOrders.{file-refused, number-decides}
+use Rattle.model.specs.Refusals.{refusal, number}
+use Rattle.model.specs.Crest.{checkOf}
+use Rattle.sources.specs.declared.Form.the-variants.{File}
+use Rattle.sources.specs.Sources.{crestIn}
+use Rattle.sources.proofs.Sound.{rules-accepted}
+use Rattle.alignment.proofs.PartOrders.{file-refused, number-done, number-refused}
 use Rattle.alignment.proofs.part.record_outcome.Statement.{statement}
 use Rattle.alignment.proofs.part.record_outcome.Tie as tie
+
+sub-none : tie.Need-sub-none
+sub-none c = search needs
+
+part-none-start : tie.Need-part-none-start
+part-none-start c = search needs
+
+part-none-end : tie.Need-part-none-end
+part-none-end c = search needs
 
 check-requires : tie.Need-check-requires
 check-requires c κs = search needs
@@ -21,23 +31,23 @@ enum-known-x c = search needs
 returns : tie.Need-returns
 returns c =
     let k = c .before .before .before in
-    let s = k .before .before in
-    sym (file-refused (s .args .file .now) (s .args .r) (sym (k .check .ensures) ∙ c .before .x .given .1))
+    let a = k .before .before .before .args in
+    sym (file-refused (a .file .now) (a .r) (sym (k .check .ensures) ∙ c .before .x .given .1))
 
 enum-told : tie.Need-enum-told
 enum-told c = search needs
 
-accepted : (c : tie.After-enum-told) → checked (c .before .before .before .before .args .file .now) ≡ Done
+accepted : (c : tie.After-enum-told) → checkOf (crestIn File (c .before .before .before .before .before .args .file .now) []) ≡ Done
 accepted c = sym (c .before .before .check .ensures) ∙ c .enum-told .given .1
 
-record-count-requires : tie.Need-record-count-requires
-record-count-requires c κs = accepted→blocks _ (accepted c)
+count-in-requires : tie.Need-count-in-requires
+count-in-requires c κs = rules-accepted File _ _ (accepted c) .readable
 
 returns-2 : tie.Need-returns-2
 returns-2 c =
     let n = c .before in
-    let s = n .before .before .before .before .before in
-    sym (number-decides (s .args .file .now) (s .args .r) (accepted (n .before)) ∙ one-done askedOutOfRange 0 (ap (ltb (s .args .r)) (sym (n .record-count .ensures)) ∙ lt-ltb _ _ (c .if1 .taken)))
+    let a = n .before .before .before .before .before .before .args in
+    sym (number-done (a .file .now) (a .r) (accepted (n .before)) (omega (arith, c .if1 .taken, n .count-in .ensures)))
 
 refused-requires : tie.Need-refused-requires
 refused-requires c κs = search needs
@@ -46,19 +56,21 @@ returns-3 : tie.Need-returns-3
 unfolding refusal number
 returns-3 c =
     let n = c .before .before in
-    let s = n .before .before .before .before .before in
-    c .refused .ensures
-    ∙ sym (number-decides (s .args .file .now) (s .args .r) (accepted (n .before)) ∙ one-refused askedOutOfRange 0 (ap (ltb (s .args .r)) (sym (n .record-count .ensures)) ∙ le-ltb _ _ (c .before .if1 .left)))
+    let a = n .before .before .before .before .before .before .args in
+    c .refused .ensures ∙ sym (number-refused (a .file .now) (a .r) (accepted (n .before)) (omega (arith, c .before .if1 .left, n .count-in .ensures)))
 
 pub record-outcome-spec : {M : Type 1} → statement M
 record-outcome-spec =
     tie.close
     (tie.spec
+    sub-none
+    part-none-start
+    part-none-end
     check-requires
     enum-known-x
     returns
     enum-told
-    record-count-requires
+    count-in-requires
     returns-2
     refused-requires
     returns-3)

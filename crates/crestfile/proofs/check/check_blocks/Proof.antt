@@ -16,19 +16,19 @@ use Rattle.crestfile.proofs.Crest.{fits→sized}
 use Rattle.crestfile.proofs.check.check_blocks.Statement.{statement}
 use Rattle.crestfile.proofs.check.check_blocks.Tie as tie
 
-abbrev lengthRules : List ℕ → List Rule
-lengthRules file = rule₀ byteCount (lengthFits (length file)) ∷ []
+abbrev runLengthRules : List ℕ → List Rule
+runLengthRules file = rule₀ byteCount (lengthFits (length file)) ∷ []
 
 abbrev sums : List ℕ → List Rule
 sums file = forEach (sumRules file) (blockCount file) 0
 
-passed : (c : tie.After-enum-told) → verdict (lengthRules (c .before .before .before .before .args .file .now)) ≡ Done
+passed : (c : tie.After-enum-told) → verdict (runLengthRules (c .before .before .before .before .args .file .now)) ≡ Done
 passed c = sym (c .before .before .check-length .ensures) ∙ c .enum-told .given .1
 
 not-longer : (c : tie.After-enum-told) → length (c .before .before .before .before .args .file .now) ≤ 2048
 not-longer c =
     let file = c .before .before .before .before .args .file .now in
-    omega (arith, fits→sized (length file) (holds-one (done→all (lengthRules file) (passed c))))
+    omega (arith, fits→sized (length file) (holds-one (done→all (runLengthRules file) (passed c))))
 
 check-length-requires : tie.Need-check-length-requires
 check-length-requires c κs = search needs
@@ -41,7 +41,7 @@ unfolding blocksRules
 returns c =
     let l = c .before .before .before in
     let file = l .before .before .args .file .now in
-    sym (refused-before (lengthRules file) _ (sym (l .check-length .ensures) ∙ c .before .length .given .1))
+    sym (refused-before (runLengthRules file) _ (sym (l .check-length .ensures) ∙ c .before .length .given .1))
 
 enum-told : tie.Need-enum-told
 enum-told c = search needs
@@ -57,7 +57,7 @@ unfolding blocksRules sumRules eachBlock blockRules
 returns-2 c =
     let s = c .before .before .before in
     let file = s .before .before .before .before .before .args .file .now in
-    sym (verdict-after (lengthRules file) _ (passed (s .before)) ∙ refused-before (sums file) _ (sym (s .check-each .ensures) ∙ c .before .sums .given .1))
+    sym (verdict-after (runLengthRules file) _ (passed (s .before)) ∙ refused-before (sums file) _ (sym (s .check-each .ensures) ∙ c .before .sums .given .1))
 
 enum-told-2 : tie.Need-enum-told-2
 enum-told-2 c = search needs
@@ -71,7 +71,7 @@ returns-3 c =
     let s = c .before .before .before in
     let file = s .before .before .before .before .before .args .file .now in
     c .check-each2 .ensures
-    ∙ sym (verdict-after (lengthRules file) _ (passed (s .before)) ∙ verdict-after (sums file) _ (sym (s .check-each .ensures) ∙ c .before .enum-told2 .given .1))
+    ∙ sym (verdict-after (runLengthRules file) _ (passed (s .before)) ∙ verdict-after (sums file) _ (sym (s .check-each .ensures) ∙ c .before .enum-told2 .given .1))
 
 pub check-blocks-spec : {M : Type 1} → statement M
 check-blocks-spec =

@@ -1,0 +1,41 @@
+-- The bytes of each form, once the rules of the layout hold: there are 1 to 60 records, and record r is 32 of the lent bytes themselves.
+use Prim.Native.Nat.{ℕ, _+_, _≤_, _<_}
+use mathlib.Core.Bool.{true}
+use mathlib.Core.List.{List}
+use mathlib.Core.Path.{_≡_, refl, ap, _∙_}
+use native.Mathlib.Omega.{arith}
+use lib.ListN.{length}
+use Rattle.model.specs.Records.{part, recordOf}
+use Rattle.model.specs.Writer.{countFits}
+use Rattle.model.proofs.Verdict.{done→all}
+use Rattle.blocks.proofs.Parts.{length-part}
+use Rattle.crestfile.proofs.ForEach.{holds-one}
+use Rattle.crestfile.proofs.Crest.{blocks→crest, count-fits, crest-count}
+use Rattle.crestfile.proofs.Part.{record-within}
+use Rattle.sources.specs.declared.Form.{Form}
+use Rattle.sources.specs.declared.Form.the-variants.{File, Row}
+use Rattle.sources.specs.Sources.{layoutRules, recordsIn, countIn, startIn, Readable}
+
+pub records-fit : (form : Form) (crest amendment : List ℕ) → Readable form crest amendment → countFits (length (recordsIn form crest amendment)) ≡ true
+unfolding layoutRules recordsIn
+records-fit File crest amendment e = crest-count (blocks→crest crest e) .0
+records-fit Row crest amendment e = holds-one (done→all _ e)
+
+pub records-counted : (form : Form) (crest amendment : List ℕ) → Readable form crest amendment → (1 ≤ countIn form crest amendment) × (countIn form crest amendment ≤ 60)
+records-counted form crest amendment e =
+    let k = count-fits (length (recordsIn form crest amendment)) .0 (records-fit form crest amendment e) in
+    (omega (arith, k .0 .1), k .1)
+
+-- record r where it lies
+pub record-lies : (form : Form) (crest amendment : List ℕ) (r : ℕ) → Readable form crest amendment → r < countIn form crest amendment →
+    (startIn form r + 32 ≤ length crest) × (part crest (startIn form r) 32 ≡ recordOf (recordsIn form crest amendment) r)
+unfolding layoutRules recordsIn startIn
+record-lies File crest amendment r e h = let w = record-within crest r e h in (w .1, w .0)
+record-lies Row crest amendment r e h = (omega arith, refl)
+
+-- so a part at its start is the record, and has 32 bytes
+pub part-is-record : (form : Form) (crest amendment : List ℕ) (r at : ℕ) {p : List ℕ} → Readable form crest amendment → r < countIn form crest amendment → at ≡ startIn form r → p ≡ part crest at 32 →
+    (p ≡ recordOf (recordsIn form crest amendment) r) × (length p ≡ 32)
+part-is-record form crest amendment r at e h s q =
+    let w = record-lies form crest amendment r e h in
+    (q ∙ ap (λ (k : ℕ). part crest k 32) s ∙ w .1, ap length (q ∙ ap (λ (k : ℕ). part crest k 32) s) ∙ length-part crest (startIn form r) 32 (w .0))

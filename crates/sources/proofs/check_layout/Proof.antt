@@ -1,0 +1,38 @@
+-- `sources::check_layout` meets its contract, by the two forms.
+use mathlib.Core.Path.{sym, _∙_}
+use borrow.Author.Needs.{needs}
+use Rattle.model.specs.Refusals.{refusal, recordCount}
+use Rattle.crestfile.proofs.Orders.{one-done, one-refused}
+use Rattle.sources.specs.Sources.{layoutRules}
+use Rattle.sources.proofs.check_layout.Statement.{statement}
+use Rattle.sources.proofs.check_layout.Tie as tie
+
+enum-told : tie.Need-enum-told
+enum-told c = search needs
+
+check-blocks-requires : tie.Need-check-blocks-requires
+check-blocks-requires c κs = search needs
+
+enum-told-2 : tie.Need-enum-told-2
+enum-told-2 c = search needs
+
+count-fits-requires : tie.Need-count-fits-requires
+count-fits-requires c κs = search needs
+
+refused-requires : tie.Need-refused-requires
+refused-requires c κs = search needs
+
+returns : tie.Need-returns
+unfolding layoutRules
+returns c = rw (c .before .enum-told .given .1) (c .check-blocks .ensures)
+
+returns-2 : tie.Need-returns-2
+unfolding layoutRules
+returns-2 c = rw (c .before .before .enum-told2 .given .1) (sym (one-done recordCount 0 (sym (c .before .count-fits .ensures) ∙ c .if1 .taken)))
+
+returns-3 : tie.Need-returns-3
+unfolding layoutRules refusal
+returns-3 c = rw (c .before .before .before .enum-told2 .given .1) (c .refused .ensures ∙ sym (one-refused recordCount 0 (sym (c .before .before .count-fits .ensures) ∙ c .before .if1 .left)))
+
+pub check-layout-spec : {M : Type 1} → statement M
+check-layout-spec = tie.close (tie.spec enum-told check-blocks-requires enum-told-2 count-fits-requires refused-requires returns returns-2 returns-3)

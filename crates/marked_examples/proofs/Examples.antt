@@ -8,7 +8,9 @@ use Rattle.model.specs.declared.Element.{Element}
 use Rattle.model.specs.declared.Point.{Point}
 use Rattle.model.specs.declared.Outcome.the-variants.{Done}
 use Rattle.model.specs.Rounding.{ONE}
-use Rattle.model.specs.Acceptance.{checked, crestElements}
+use Rattle.model.specs.Refusals.{verdict}
+use Rattle.model.specs.Acceptance.{crestRules, crestElements}
+use Rattle.model.specs.Crest.{checkOf, fileCrest}
 use Rattle.model.specs.Stations.{D}
 use Rattle.model.specs.Answers.{paperOfLocated, located, locatedOn}
 use Rattle.marked_examples.specs.Examples.{K, point, firstThree, valuesBy, answered, examples, asked, due}
@@ -17,16 +19,16 @@ use Rattle.model.proofs.Answers.{located-accepted}
 unfoldable pub elementsK : List Element
 elementsK = record { kind = Line; length = 10000; x = pos 0; y = pos 0; c = pos ONE; s = pos 0; radius = pos 0 } ∷ []
 
-pub acceptedK : checked K ≡ Done
-unfolding checked K
+pub acceptedK : checkOf (fileCrest K) ≡ Done
+unfolding verdict crestRules K
 acceptedK = refl
 
 pub readK : crestElements K ≡ elementsK
 unfolding crestElements K elementsK
 readK = refl
 
-onK : (p : Point) → located K p ≡ locatedOn elementsK p
-onK p = located-accepted K p acceptedK ∙ ap (λ es. locatedOn es p) readK
+onK : (p : Point) → located (fileCrest K) p ≡ locatedOn elementsK p
+onK p = located-accepted (fileCrest K) p acceptedK ∙ ap (λ es. locatedOn es p) readK
 
 -- of example 2: "(tie with 6)"
 pub tie-with-6 : D elementsK (point (pos 550) (pos 300)) 5 ≡ D elementsK (point (pos 550) (pos 300)) 6
@@ -34,7 +36,7 @@ unfolding D elementsK
 tie-with-6 = refl
 
 -- what examples 1 to 8 ask of a point on K, on K's element
-point-on-K : (f : List ℤ → List ℤ) (p : Point) → valuesBy f (paperOfLocated (located K p)) ≡ valuesBy f (paperOfLocated (locatedOn elementsK p))
+point-on-K : (f : List ℤ → List ℤ) (p : Point) → valuesBy f (paperOfLocated (located (fileCrest K) p)) ≡ valuesBy f (paperOfLocated (locatedOn elementsK p))
 point-on-K f p = ap (λ l. valuesBy f (paperOfLocated l)) (onK p)
 
 -- The fourteen examples, in one statement.

@@ -14,14 +14,13 @@ use Rattle.model.specs.declared.Reading.the-variants.{PlanePoint}
 use Rattle.model.specs.declared.Outcome.the-variants.{Done}
 use Rattle.model.specs.Records.{u32At}
 use Rattle.model.specs.Refusals.{refusal, verdict, orRefused}
-use Rattle.model.specs.Acceptance.{checked, crestRules, crestElements}
+use Rattle.model.specs.Crest.{Crest, fileCrest}
 use Rattle.model.specs.Answers.{locatedOn}
-use Rattle.model.specs.Readings.{numberRules, answerTo, fromLocated, valueOf, wholeOf}
+use Rattle.model.specs.Readings.{numberRules, answerOn, answerTo, fromLocated, valueOf, wholeOf}
 use Rattle.model.specs.Run.{Shown, fresh, isFull, fullRules, shownOf, counted, noted, notedIf}
 use Rattle.model.specs.Program.{ascii, decimal, line, firstWords, heading, readingLine, lastLine, readingAt, readingsFrom, readingsOf, printFrom, printed}
 use Rattle.marked_examples.specs.Examples.{K, point}
-use Rattle.model.proofs.Verdict.{verdict-after}
-use Rattle.model.proofs.Answers.{located-after}
+use Rattle.model.proofs.Answers.{located-after, answer-accepted}
 use Rattle.marked_examples.proofs.Examples.{elementsK, acceptedK, readK}
 
 -- x and y of examples 1 and 4 as f64: (512, 300) and (−101, 0)
@@ -36,15 +35,16 @@ on-K x y = shownOf (fromLocated (locatedOn elementsK (point (valueOf (wholeOf x)
 
 -- a reading on K whose numbers are whole
 module _ (x y : Float) (w : verdict (numberRules x y) ≡ Done) where
-  answer-on-K : answerTo K (PlanePoint x y) ≡ fromLocated (locatedOn elementsK (point (valueOf (wholeOf x)) (valueOf (wholeOf y))))
-  unfolding answerTo checked
+  answer-on-K : answerTo (fileCrest K) (PlanePoint x y) ≡ fromLocated (locatedOn elementsK (point (valueOf (wholeOf x)) (valueOf (wholeOf y))))
+  unfolding answerOn
   answer-on-K =
-      let p = point (valueOf (wholeOf x)) (valueOf (wholeOf y)) in
-      ap fromLocated (located-after (crestRules K ++ numberRules x y) (crestElements K) p (verdict-after (crestRules K) (numberRules x y) acceptedK ∙ w) ∙ ap (λ es. locatedOn es p) readK)
+      answer-accepted (fileCrest K) (PlanePoint x y) acceptedK
+      ∙ ap (λ es. answerOn es (PlanePoint x y)) readK
+      ∙ ap fromLocated (located-after (numberRules x y) elementsK (point (valueOf (wholeOf x)) (valueOf (wholeOf y))) w)
 
   -- its line, where the run is not full, and what follows
   taken : (i : ℕ) (run : Run) (rs : List Reading) → isFull run ≡ false →
-      printFrom K i run (PlanePoint x y ∷ rs) ≡ readingLine i (on-K x y) ++ printFrom K (i + 1) (counted (on-K x y) run) rs
+      printFrom (fileCrest K) i run (PlanePoint x y ∷ rs) ≡ readingLine i (on-K x y) ++ printFrom (fileCrest K) (i + 1) (counted (on-K x y) run) rs
   unfolding printFrom noted notedIf verdict orRefused fullRules
   taken i run rs h = rw (h, answer-on-K)
 
@@ -94,27 +94,27 @@ came-4 = refl
 abbrev run₁ : Run
 run₁ = record { answered = 1; refused = 0; latest = 0; first = 0; reading = 0; one = pos 5; two = pos 300; three = pos 12 }
 
-second-line : printFrom K 2 run₁ (PlanePoint x₄ y₄ ∷ []) ≡ readingLine 2 o₄ ++ lastLine (counted o₄ run₁)
+second-line : printFrom (fileCrest K) 2 run₁ (PlanePoint x₄ y₄ ∷ []) ≡ readingLine 2 o₄ ++ lastLine (counted o₄ run₁)
 unfolding printFrom isFull
 second-line = taken x₄ y₄ whole-4 2 run₁ [] refl ∙ ap (λ o. readingLine 2 o ++ lastLine (counted o run₁)) came-4
 
-both-lines : printFrom K 1 fresh (PlanePoint x₁ y₁ ∷ PlanePoint x₄ y₄ ∷ []) ≡ readingLine 1 o₁ ++ (readingLine 2 o₄ ++ lastLine (counted o₄ run₁))
+both-lines : printFrom (fileCrest K) 1 fresh (PlanePoint x₁ y₁ ∷ PlanePoint x₄ y₄ ∷ []) ≡ readingLine 1 o₁ ++ (readingLine 2 o₄ ++ lastLine (counted o₄ run₁))
 unfolding isFull counted
 both-lines =
     taken x₁ y₁ whole-1 1 fresh (PlanePoint x₄ y₄ ∷ []) refl
-    ∙ ap (λ o. readingLine 1 o ++ printFrom K 2 (counted o fresh) (PlanePoint x₄ y₄ ∷ [])) came-1
+    ∙ ap (λ o. readingLine 1 o ++ printFrom (fileCrest K) 2 (counted o fresh) (PlanePoint x₄ y₄ ∷ [])) came-1
     ∙ ap (λ t. readingLine 1 o₁ ++ t) second-line
 
 pub printed-example : printed K readingsK ≡ ascii "reading station offset residual\n1 5 300 12\n2 refused 13\nanswered 1 refused 1 first 2 13\n"
 unfolding printed heading readingLine lastLine counted
-printed-example = ap (λ rs. heading ++ printFrom K 1 fresh rs) readings-read ∙ ap (λ t. heading ++ t) both-lines
+printed-example = ap (λ rs. heading ++ printFrom (fileCrest K) 1 fresh rs) readings-read ∙ ap (λ t. heading ++ t) both-lines
 
 -- ---- what no example shows
 
 -- "from a full run on, each reading prints its number in the input and refused 16"
-pub full-line : (file : List ℕ) (i : ℕ) (run : Run) (r : Reading) (rs : List Reading) → isFull run ≡ true → printFrom file i run (r ∷ rs) ≡ line (decimal i ∷ ascii "refused" ∷ decimal 16 ∷ []) ++ printFrom file (i + 1) run rs
+pub full-line : (c : Crest) (i : ℕ) (run : Run) (r : Reading) (rs : List Reading) → isFull run ≡ true → printFrom c i run (r ∷ rs) ≡ line (decimal i ∷ ascii "refused" ∷ decimal 16 ∷ []) ++ printFrom c (i + 1) run rs
 unfolding printFrom noted notedIf verdict orRefused fullRules refusal shownOf readingLine
-full-line file i run r rs h = rw h
+full-line c i run r rs h = rw h
 
 -- "With no refusal the last line ends "first none"."
 pub first-none : (run : Run) → run .first ≡ 0 → lastLine run ≡ line (ascii "answered" ∷ decimal (run .answered) ∷ ascii "refused" ∷ decimal (run .refused) ∷ ascii "first" ∷ ascii "none" ∷ [])

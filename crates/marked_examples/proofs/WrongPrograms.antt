@@ -18,13 +18,15 @@ use Rattle.model.specs.declared.ReadingAnswer.the-variants.{Refused as AnswerRe
 use Rattle.model.specs.declared.Run.{Run}
 use Rattle.model.specs.Rounding.{ONE}
 use Rattle.model.specs.Refusals.{refusal, beforeStart}
-use Rattle.model.specs.Acceptance.{checked}
+use Rattle.model.specs.Acceptance.{crestRules, checked, crestElements}
+use Rattle.model.specs.Crest.{fileCrest}
 use Rattle.model.specs.Writer.{written}
 use Rattle.model.specs.Stations.{total, D}
 use Rattle.model.specs.Judged.{judged}
 use Rattle.model.specs.Walk.{firstVisits, visitCount}
 use Rattle.model.specs.Answers.{located}
-use Rattle.model.specs.Run.{Shown, shownOf, answers, counted, acknowledged, acknowledgeCall}
+use Rattle.model.specs.Run.{Shown, shownOf, answers, counted, acknowledged}
+use Rattle.model.specs.Calls.{acknowledgeCall}
 use Rattle.marked_examples.specs.Examples.{K, crest, oneRecord, point}
 
 -- a line as K of 10 mm
@@ -46,11 +48,11 @@ refuses-all-files f refuses meets =
 answered : Located
 answered = At 5 (pos 300) (pos 12) 12
 
-short-answered : located short (point (pos 512) (pos 300)) ≡ answered
-unfolding located short answered
+short-answered : located (fileCrest short) (point (pos 512) (pos 300)) ≡ answered
+unfolding located crestRules crestElements short answered
 short-answered = refl
 
-pub refuses-all-points : (f : List ℕ → Point → Located) → ((file : List ℕ) (p : Point) → (why : Refusal) × (f file p ≡ LocatedRefused why)) → ((file : List ℕ) (p : Point) → f file p ≡ located file p) → ⊥
+pub refuses-all-points : (f : List ℕ → Point → Located) → ((file : List ℕ) (p : Point) → (why : Refusal) × (f file p ≡ LocatedRefused why)) → ((file : List ℕ) (p : Point) → f file p ≡ located (fileCrest file) p) → ⊥
 unfolding answered
 refuses-all-points f refuses meets =
     let p = point (pos 512) (pos 300) in
@@ -59,7 +61,7 @@ refuses-all-points f refuses meets =
 
 -- ---- "one that always answers station 0 (demand 3)": station 0 wherever it answers
 
-pub always-station-0 : (f : List ℕ → Point → Located) → ((file : List ℕ) (p : Point) (s : ℕ) (o r : ℤ) (v : ℕ) → f file p ≡ At s o r v → s ≡ 0) → ((file : List ℕ) (p : Point) → f file p ≡ located file p) → ⊥
+pub always-station-0 : (f : List ℕ → Point → Located) → ((file : List ℕ) (p : Point) (s : ℕ) (o r : ℤ) (v : ℕ) → f file p ≡ At s o r v → s ≡ 0) → ((file : List ℕ) (p : Point) → f file p ≡ located (fileCrest file) p) → ⊥
 unfolding answered
 always-station-0 f zero meets =
     let p = point (pos 512) (pos 300) in

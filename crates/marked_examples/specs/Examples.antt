@@ -1,17 +1,16 @@
 -- Document 01, "Marked examples": the fourteen examples as one table of questions and expected answers.
 use Prim.Native.Nat.{ℕ}
 use mathlib.Core.List.{List, [], _∷_, _++_, map}
-use lib.ListN.{replicate}
 use lib.IntN.{ℤ, pos, negℤ}
 use Rattle.model.specs.declared.Point.{Point}
 use Rattle.model.specs.Rounding.{ONE}
 use Rattle.model.specs.Refusals.{Reason, refusal, tooFar, beforeStart, afterEnd}
-use Rattle.model.specs.Records.{u32Bytes}
-use Rattle.model.specs.Acceptance.{crestElements}
+use Rattle.model.specs.Records.{u32Bytes, i32Bytes}
+use Rattle.model.specs.Acceptance.{crestRules, crestElements}
+use Rattle.model.specs.Crest.{fileCrest}
 use Rattle.model.specs.Writer.{fileOf}
 use Rattle.model.specs.Walk.{visits}
 use Rattle.model.specs.Answers.{PaperAnswer, answer, refusedWith, paperOfPlaced, paperOfLocated, paperOfInverse, paperOfMove, placed, located, inverse, stakeOut}
-use Rattle.model.specs.Run.{i32Bytes}
 
 abbrev pub point : ℤ → ℤ → Point
 point x y = record { x = x; y = y }
@@ -68,16 +67,16 @@ abbrev pub valuesBy : (List ℤ → List ℤ) → PaperAnswer → PaperAnswer
 valuesBy f p = record { number = p .number; place = p .place; values = f (p .values) }
 
 unfoldable pub answered : Question → PaperAnswer
-unfolding paperOfLocated located paperOfInverse inverse paperOfPlaced placed paperOfMove stakeOut visits crestElements
-answered (locate file p) = valuesBy firstThree (paperOfLocated (located file p))
-answered (accept file p) = valuesBy (λ v. []) (paperOfLocated (located file p))
-answered (walk file p) = valuesBy (λ v. map pos (visits (crestElements file) p) ++ afterThree v) (paperOfLocated (located file p))
-answered (invert file s w) = paperOfInverse (inverse file s w)
-answered (place file s) = valuesBy firstTwo (paperOfPlaced (placed file s))
+unfolding paperOfLocated located paperOfInverse inverse paperOfPlaced placed paperOfMove stakeOut visits crestRules crestElements
+answered (locate file p) = valuesBy firstThree (paperOfLocated (located (fileCrest file) p))
+answered (accept file p) = valuesBy (λ v. []) (paperOfLocated (located (fileCrest file) p))
+answered (walk file p) = valuesBy (λ v. map pos (visits (crestElements file) p) ++ afterThree v) (paperOfLocated (located (fileCrest file) p))
+answered (invert file s w) = paperOfInverse (inverse (fileCrest file) s w)
+answered (place file s) = valuesBy firstTwo (paperOfPlaced (placed (fileCrest file) s))
 answered (stake own target c s) = paperOfMove (stakeOut own target c s)
 
 abbrev pub refusedBy : Reason → ℕ → PaperAnswer
-refusedBy why zeros = refusedWith (refusal why 0) (replicate zeros (pos 0))
+refusedBy why zeros = refusedWith (refusal why 0) zeros
 
 pub record Example : Type 0 where
   pub question : Question

@@ -21,8 +21,9 @@ use Rattle.model.specs.declared.Outcome.{Outcome}
 use Rattle.model.specs.declared.Outcome.the-variants.{Done, Refused}
 use Rattle.model.specs.declared.Located.{Located}
 use Rattle.model.specs.declared.Located.the-variants.{At as LocatedAt, Refused as LocatedRefused}
-use Rattle.model.specs.Refusals.{Reason, Rule, rule₀, number, refusal, verdict, outsideFrame, tooFar, beforeStart, afterEnd}
-use Rattle.model.specs.Acceptance.{inFrame, checked, crestElements}
+use Rattle.model.specs.Refusals.{Reason, Rule, rule₀, number, refusal, Gives, verdict, outsideFrame, tooFar, beforeStart, afterEnd}
+use Rattle.model.specs.Acceptance.{inFrame}
+use Rattle.model.specs.Crest.{Crest, checkOf, isOwn}
 use Rattle.model.specs.Stations.{total, D}
 use Rattle.model.specs.Judged.{judged, residualAt, offsetAt}
 use Rattle.model.specs.Walk.{firstVisits, secondVisits, visits, visitCount}
@@ -68,10 +69,10 @@ holds-unless false f = ((λ e. let z : _≡_ {A = ℕ} 0 1 = cc in absurd (omega
 
 -- ---- from the verdict to the answer
 
-pub located-refused : (o : Outcome) (es : List Element) (p : Point) (s : ℕ) (w : Refusal) → (locatedIf o es p s ≡ LocatedRefused w) ↔ (o ≡ Refused w)
+pub located-if-refused : (o : Outcome) (es : List Element) (p : Point) (s : ℕ) (w : Refusal) → (locatedIf o es p s ≡ LocatedRefused w) ↔ (o ≡ Refused w)
 unfolding locatedIf
-located-refused Done es p s w = ((λ e. let z : _≡_ {A = ℕ} 0 1 = cc in absurd (omega arith)), (λ e. let z : _≡_ {A = ℕ} 0 1 = cc in absurd (omega arith)))
-located-refused (Refused r) es p s w = ((λ e. cc), (λ e. cc))
+located-if-refused Done es p s w = ((λ e. let z : _≡_ {A = ℕ} 0 1 = cc in absurd (omega arith)), (λ e. let z : _≡_ {A = ℕ} 0 1 = cc in absurd (omega arith)))
+located-if-refused (Refused r) es p s w = ((λ e. cc), (λ e. cc))
 
 pub count-is : (es : List Element) (p : Point) → visitCount es p ≡ length (firstVisits (total es)) + length (secondVisits es p)
 unfolding visitCount visits
@@ -121,7 +122,7 @@ module _ (es : List Element) (p : Point) where
   unfolding locatedOn locatedAfter pointRules
   refused-by before r after split k l =
       Iff·trans
-      (located-refused (verdict (frame ∷ near ∷ start ∷ end ∷ [])) es p (judged es p) (refusal (r .why) (r .place)))
+      (located-if-refused (verdict (frame ∷ near ∷ start ∷ end ∷ [])) es p (judged es p) (refusal (r .why) (r .place)))
       (rw split at (given-exactly r after l before k))
 
   pub outside-frame : (locatedOn es p ≡ LocatedRefused (refusal outsideFrame 0)) ↔ (inFrame (p .x) (p .y) ≡ false)
@@ -188,33 +189,33 @@ module _ (es : List Element) (p : Point) where
         y .count ∙ sym (count-is es p),
       )
 
--- ---- over bytes: the crest's own refusals first
+-- ---- on a crest: its own refusals first
 
-module _ (file : List ℕ) (p : Point) where
+module _ (c : Crest) (own : Gives isOwn (c .rules)) (p : Point) where
   -- an outcome that no crest gives of its own, with the condition C over elements
-  over-bytes : (l : Located) {C : Type 0} → ((w : Refusal) → l ≡ LocatedRefused w → 9 < w .number) → (locatedOn (crestElements file) p ≡ l) ↔ C → (located file p ≡ l) ↔ ((checked file ≡ Done) × C)
-  over-bytes l above c = Iff·trans (located-exactly file p l above) ((λ x. (x .0, c .0 (x .1))), (λ x. (x .0, c .1 (x .1))))
+  on-crest : (l : Located) {C : Type 0} → ((w : Refusal) → l ≡ LocatedRefused w → isOwn (w .number) ≡ false) → (locatedOn (c .elements) p ≡ l) ↔ C → (located c p ≡ l) ↔ ((checkOf c ≡ Done) × C)
+  on-crest l later e = Iff·trans (located-exactly c own p l later) ((λ x. (x .0, e .0 (x .1))), (λ x. (x .0, e .1 (x .1))))
 
-  refused-over-bytes : (why : Reason) {C : Type 0} → 9 < number why → (locatedOn (crestElements file) p ≡ LocatedRefused (refusal why 0)) ↔ C → (located file p ≡ LocatedRefused (refusal why 0)) ↔ ((checked file ≡ Done) × C)
+  refused-on-crest : (why : Reason) {C : Type 0} → isOwn (number why) ≡ false → (locatedOn (c .elements) p ≡ LocatedRefused (refusal why 0)) ↔ C → (located c p ≡ LocatedRefused (refusal why 0)) ↔ ((checkOf c ≡ Done) × C)
   unfolding refusal
-  refused-over-bytes why h c = over-bytes (LocatedRefused (refusal why 0)) (λ w e. let n : number why ≡ w .number = cc in omega arith) c
+  refused-on-crest why h e = on-crest (LocatedRefused (refusal why 0)) (λ w q. let n : number why ≡ w .number = cc in sym (ap isOwn n) ∙ h) e
 
-  pub file-outside-frame : (located file p ≡ LocatedRefused (refusal outsideFrame 0)) ↔ ((checked file ≡ Done) × (inFrame (p .x) (p .y) ≡ false))
-  unfolding number
-  file-outside-frame = refused-over-bytes outsideFrame (omega arith) (outside-frame (crestElements file) p)
+  pub crest-outside-frame : (located c p ≡ LocatedRefused (refusal outsideFrame 0)) ↔ ((checkOf c ≡ Done) × (inFrame (p .x) (p .y) ≡ false))
+  unfolding number isOwn
+  crest-outside-frame = refused-on-crest outsideFrame refl (outside-frame (c .elements) p)
 
-  pub file-too-far : (located file p ≡ LocatedRefused (refusal tooFar 0)) ↔ ((checked file ≡ Done) × TooFar (crestElements file) p)
-  unfolding number
-  file-too-far = refused-over-bytes tooFar (omega arith) (too-far (crestElements file) p)
+  pub crest-too-far : (located c p ≡ LocatedRefused (refusal tooFar 0)) ↔ ((checkOf c ≡ Done) × TooFar (c .elements) p)
+  unfolding number isOwn
+  crest-too-far = refused-on-crest tooFar refl (too-far (c .elements) p)
 
-  pub file-before-start : (located file p ≡ LocatedRefused (refusal beforeStart 0)) ↔ ((checked file ≡ Done) × BeforeStart (crestElements file) p)
-  unfolding number
-  file-before-start = refused-over-bytes beforeStart (omega arith) (before-start (crestElements file) p)
+  pub crest-before-start : (located c p ≡ LocatedRefused (refusal beforeStart 0)) ↔ ((checkOf c ≡ Done) × BeforeStart (c .elements) p)
+  unfolding number isOwn
+  crest-before-start = refused-on-crest beforeStart refl (before-start (c .elements) p)
 
-  pub file-after-end : (located file p ≡ LocatedRefused (refusal afterEnd 0)) ↔ ((checked file ≡ Done) × AfterEnd (crestElements file) p)
-  unfolding number
-  file-after-end = refused-over-bytes afterEnd (omega arith) (after-end (crestElements file) p)
+  pub crest-after-end : (located c p ≡ LocatedRefused (refusal afterEnd 0)) ↔ ((checkOf c ≡ Done) × AfterEnd (c .elements) p)
+  unfolding number isOwn
+  crest-after-end = refused-on-crest afterEnd refl (after-end (c .elements) p)
 
-  pub file-answered : (station : ℕ) (offset residual : ℤ) (count : ℕ) → (located file p ≡ LocatedAt station offset residual count) ↔ ((checked file ≡ Done) × Answered (crestElements file) p station offset residual count)
-  file-answered station offset residual count =
-      over-bytes (LocatedAt station offset residual count) (λ w e. let z : _≡_ {A = ℕ} 0 1 = cc in absurd (omega arith)) (answered (crestElements file) p station offset residual count)
+  pub crest-answered : (station : ℕ) (offset residual : ℤ) (count : ℕ) → (located c p ≡ LocatedAt station offset residual count) ↔ ((checkOf c ≡ Done) × Answered (c .elements) p station offset residual count)
+  crest-answered station offset residual count =
+      on-crest (LocatedAt station offset residual count) (λ w e. let z : _≡_ {A = ℕ} 0 1 = cc in absurd (omega arith)) (answered (c .elements) p station offset residual count)

@@ -1,47 +1,51 @@
--- An element's own stations lie on it, at the station less the lengths before it: by induction over the elements before it. They run from its bound, the sum of
--- the lengths before it, up to the next, and the last bound is T + 1.
+-- An element's own stations lie on it, at the station less the lengths before it: by induction over the elements before it.
 use mathlib.Core.Path.{_≡_, refl, _∙_, ap}
 use mathlib.Core.List.{List, [], _∷_, _++_}
-use Prim.Native.Nat.{ℕ, zero, suc, _+_, _-_, _≤_, _<_}
+use Prim.Native.Nat.{ℕ, suc, _+_, _-_, _≤_, _<_}
 use native.Mathlib.Omega.{arith}
-use native.Mathlib.Nat.{add-zero}
-use lib.ListN.{length, getD, take, drop, take-append-drop}
-use lib.Seq.{getD-drop}
+use native.Mathlib.Nat.{add-zero, zero-add}
+use lib.ListN.{length, take, drop, take-append-drop}
 use borrow.Author.Tests.{lt-ltb, le-ltb}
 use Rattle.model.specs.declared.Element.{Element}
 use Rattle.model.specs.declared.Point.{Point}
 use Rattle.model.specs.Series.{positionOn}
-use Rattle.model.specs.Stations.{AtElement, atStation, total, positionAt, distanceSq, D}
-use Rattle.model.specs.Walk.{ownStations, boundsFrom, bounds}
+use Rattle.model.specs.Stations.{AtElement, atElement, atFrom, atStation, total, positionAt, distanceSq, D}
+use Rattle.model.specs.Walk.{ownStations}
 
 pub own-between : (e : Element) (es : List Element) → (e .length ≤ ownStations e es) × (ownStations e es ≤ e .length + 1)
 unfolding ownStations
 own-between e [] = (omega arith, omega arith)
 own-between e (f ∷ es) = (omega arith, omega arith)
 
-pub at-first : (e : Element) (es : List Element) (s : ℕ) → s < ownStations e es → atStation (e ∷ es) s ≡ record { element = e; s = s }
-unfolding atStation ownStations
-at-first e [] s h = refl
-at-first e (f ∷ es) s h = rw (lt-ltb s (e .length) h)
+-- of elements of which the first has the number i
+pub at-first : (i : ℕ) (e : Element) (es : List Element) (s : ℕ) → s < ownStations e es → atFrom i (e ∷ es) s ≡ atElement i e s
+unfolding atFrom ownStations
+at-first i e [] s h = refl
+at-first i e (f ∷ es) s h = rw (lt-ltb s (e .length) h)
 
-pub at-later : (e f : Element) (es : List Element) (s : ℕ) → atStation (e ∷ f ∷ es) (e .length + s) ≡ atStation (f ∷ es) s
-unfolding atStation
-at-later e f es s =
+pub at-later : (i : ℕ) (e f : Element) (es : List Element) (s : ℕ) → atFrom i (e ∷ f ∷ es) (e .length + s) ≡ atFrom (i + 1) (f ∷ es) s
+unfolding atFrom
+at-later i e f es s =
     let past : e .length ≤ e .length + s = omega arith in
     let rest : e .length + s - e .length ≡ s = omega arith in
     rw (le-ltb (e .length + s) (e .length) past, rest)
 
-at-later-of : (b : Element) (bs : List Element) (e : Element) (after : List Element) (s : ℕ) → atStation (b ∷ (bs ++ (e ∷ after))) (b .length + s) ≡ atStation (bs ++ (e ∷ after)) s
-at-later-of b [] e after s = at-later b e after s
-at-later-of b (c ∷ bs) e after s = at-later b c (bs ++ (e ∷ after)) s
+at-later-of : (i : ℕ) (b : Element) (bs : List Element) (e : Element) (after : List Element) (s : ℕ) → atFrom i (b ∷ (bs ++ (e ∷ after))) (b .length + s) ≡ atFrom (i + 1) (bs ++ (e ∷ after)) s
+at-later-of i b [] e after s = at-later i b e after s
+at-later-of i b (c ∷ bs) e after s = at-later i b c (bs ++ (e ∷ after)) s
+
+own-from : (i : ℕ) (before : List Element) (e : Element) (after : List Element) (s : ℕ) → s < ownStations e after → atFrom i (before ++ (e ∷ after)) (total before + s) ≡ atElement (i + length before) e s
+unfolding total
+own-from i [] e after s h = rw (zero-add s, add-zero i) (at-first i e after s h)
+own-from i (b ∷ bs) e after s h =
+    let regroup : b .length + total bs + s ≡ b .length + (total bs + s) = omega arith in
+    let number : i + length (b ∷ bs) ≡ i + 1 + length bs = omega arith in
+    rw (regroup, number) (at-later-of i b bs e after (total bs + s) ∙ own-from (i + 1) bs e after s h)
 
 -- the station s mm from the start of e, where the elements `before` come before it and `after` after it
-pub at-own : (before : List Element) (e : Element) (after : List Element) (s : ℕ) → s < ownStations e after → atStation (before ++ (e ∷ after)) (total before + s) ≡ record { element = e; s = s }
-unfolding total
-at-own [] e after s h = let z : 0 + s ≡ s = omega arith in rw z (at-first e after s h)
-at-own (b ∷ bs) e after s h =
-    let regroup : b .length + total bs + s ≡ b .length + (total bs + s) = omega arith in
-    rw regroup (at-later-of b bs e after (total bs + s) ∙ at-own bs e after s h)
+pub at-own : (before : List Element) (e : Element) (after : List Element) (s : ℕ) → s < ownStations e after → atStation (before ++ (e ∷ after)) (total before + s) ≡ atElement (length before) e s
+unfolding atStation
+at-own before e after s h = rw (← zero-add (length before)) (own-from 0 before e after s h)
 
 pub D-own : (before : List Element) (e : Element) (after : List Element) (p : Point) (s : ℕ) → s < ownStations e after → D (before ++ (e ∷ after)) p (total before + s) ≡ distanceSq p (positionOn e s)
 unfolding D positionAt
@@ -62,56 +66,3 @@ total-at u i e split =
     let whole = ap total (take-append-drop i u) in
     let same = ap total (take-append-drop (suc i) u) in
     (omega (arith, here, next, whole, same, rest), omega (arith, here, whole, rest))
-
--- ---- the bounds
-
-length-from : (s : ℕ) (es : List Element) → length (boundsFrom s es) ≡ suc (length es)
-unfolding boundsFrom
-length-from s [] = refl
-length-from s (e ∷ es) = ap suc (length-from (s + ownStations e es) es)
-
-pub bounds-length : (es : List Element) → length (bounds es) ≡ suc (length es)
-unfolding bounds
-bounds-length es = length-from 0 es
-
-bounds-first : (s : ℕ) (es : List Element) → getD (boundsFrom s es) 0 0 ≡ s
-unfolding boundsFrom
-bounds-first s [] = refl
-bounds-first s (e ∷ es) = refl
-
--- from the i-th element on they are the bounds of the elements left, the first of which begins where the lengths before it end
-bounds-drop : (s : ℕ) (es : List Element) (i : ℕ) → i < length es → drop i (boundsFrom s es) ≡ boundsFrom (s + total (take i es)) (drop i es)
-unfolding boundsFrom total ownStations
-bounds-drop s [] i h = absurd (omega arith)
-bounds-drop s (e ∷ es) zero h = rw (add-zero s)
-bounds-drop s (e ∷ []) (suc i) h = absurd (omega arith)
-bounds-drop s (e ∷ f ∷ es) (suc i) h =
-    let regroup : s + e .length + total (take i (f ∷ es)) ≡ s + (e .length + total (take i (f ∷ es))) = omega arith in
-    rw regroup at (bounds-drop (s + e .length) (f ∷ es) i (omega arith))
-
--- the i-th element's bound
-pub bound-at : (es : List Element) (i : ℕ) → i < length es → getD (bounds es) i 0 ≡ total (take i es)
-unfolding bounds
-bound-at es i h =
-    let at = getD-drop i (boundsFrom 0 es) 0 0 in
-    let first = bounds-first (0 + total (take i es)) (drop i es) in
-    omega (arith, rw (add-zero i, bounds-drop 0 es i h) at at, first)
-
--- up to the next one there are its own stations
-pub bound-next : (es : List Element) (i : ℕ) (e : Element) (rest : List Element) → i < length es → drop i es ≡ e ∷ rest → getD (bounds es) (i + 1) 0 ≡ total (take i es) + ownStations e rest
-unfolding bounds boundsFrom
-bound-next es i e rest h split =
-    let at = getD-drop i (boundsFrom 0 es) 1 0 in
-    let first = bounds-first (0 + total (take i es) + ownStations e rest) rest in
-    omega (arith, rw (bounds-drop 0 es i h, split) at at, first)
-
-last-from : (s : ℕ) (e : Element) (es : List Element) → getD (boundsFrom s (e ∷ es)) (suc (length es)) 0 ≡ s + total (e ∷ es) + 1
-unfolding boundsFrom ownStations total
-last-from s e [] = omega arith
-last-from s e (f ∷ es) = omega (arith, last-from (s + e .length) f es)
-
--- the last bound is T + 1
-pub bound-last : (es : List Element) → 0 < length es → getD (bounds es) (length es) 0 ≡ total es + 1
-unfolding bounds
-bound-last [] h = absurd (omega arith)
-bound-last (e ∷ es) h = omega (arith, last-from 0 e es)

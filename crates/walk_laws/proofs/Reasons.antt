@@ -2,14 +2,13 @@
 use mathlib.Core.Bool.{Bool, true, false}
 use mathlib.Core.List.{List, [], _∷_, _++_}
 use mathlib.Core.Logic.{_↔_, _≢_}
-use mathlib.Core.Path.{_≡_, refl}
-use Prim.Native.Nat.{ℕ, _<_}
+use mathlib.Core.Path.{_≡_, refl, ap}
+use Prim.Native.Nat.{ℕ}
 use native.Mathlib.Omega.{arith}
 use Rattle.model.specs.declared.Refusal.{Refusal}
 use Rattle.model.specs.declared.Outcome.the-variants.{Refused}
-use Rattle.model.specs.Refusals.{Rule, number, refusal, orRefused, verdict}
+use Rattle.model.specs.Refusals.{Rule, number, refusal, Gives, none, more, orRefused, verdict}
 use Rattle.model.proofs.Verdict.{AllHold, none as all-none, more as all-more, first→refused}
-use Rattle.model.proofs.RuleNumbers.{UpTo, none, more}
 
 -- ---- rules that hold
 
@@ -30,10 +29,10 @@ pub lacks-++ : {n : ℕ} {rs ss : List Rule} → Lacks n rs → Lacks n ss → L
 lacks-++ empty l = l
 lacks-++ (other h k) l = other h (lacks-++ k l)
 
--- rules that give no number above m lack every number above it
-pub lacks-above : {m n : ℕ} {rs : List Rule} → m < n → UpTo m rs → Lacks n rs
-lacks-above h none = empty
-lacks-above h (more {r} k a) = other {r = r} (omega arith) (lacks-above h a)
+-- rules lack every number but those that they give
+pub lacks-other : {t : ℕ → Bool} {n : ℕ} {rs : List Rule} → Gives t rs → t n ≡ false → Lacks n rs
+lacks-other none h = empty
+lacks-other {t} (more {r} k a) h = other {r = r} (λ e. let z : _≡_ {A = ℕ} 0 1 = cc (ap t e) in omega arith) (lacks-other a h)
 
 -- a refusal of an order that begins with r comes from r, or from the rules after it
 data Source (r : Rule) (rs : List Rule) (w : Refusal) : Type 0 where

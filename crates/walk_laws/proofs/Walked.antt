@@ -14,7 +14,7 @@ use Rattle.model.specs.declared.Point.{Point}
 use Rattle.model.specs.Accepted.{AllAccepted}
 use Rattle.model.specs.Stations.{total, D}
 use Rattle.model.specs.Judged.{judged, Least}
-use Rattle.model.specs.Walk.{firstVisits, bestOf, firstBest, secondVisits, visits, isIn, LeftOut}
+use Rattle.model.specs.Walk.{firstVisits, bestOf, firstBest, secondVisits, visits, isIn}
 use Rattle.model.proofs.Judged.{judged-least}
 use Rattle.walk_laws.proofs.Visits.{isIn-++, Rising, rising-within, bestOf-++, bestOf-in-≤, ≤-bestOf, first-rises}
 use Rattle.walk_laws.proofs.Passed.{Passed, second-passed}
@@ -48,6 +48,11 @@ or-true : (a b : Bool) → b ≡ true → (a || b) ≡ true
 or-true true b e = refl
 or-true false b e = e
 
+-- a station on the alignment that the second pass does not visit
+pub record LeftOut (es : List Element) (p : Point) (s : ℕ) : Type 0 where
+  pub on : s ≤ total es
+  pub unvisited : isIn s (secondVisits es p) ≡ false
+
 module _ (es : List Element) (some : 0 < length es) (accepted : AllAccepted es) (p : Point) where
   passed : Passed (D es p) 0 (total es + 1) (firstBest (D es p) (total es)) (secondVisits es p)
   passed = second-passed es p some accepted
@@ -78,7 +83,7 @@ module _ (es : List Element) (some : 0 < length es) (accepted : AllAccepted es) 
   unfolding visits firstBest
   walk-best = bestOf-++ (D es p) (D es p 0) (firstVisits (total es)) (secondVisits es p) ∙ second-best
 
-  -- demand 3: "what the walk leaves out lies farther"
+  -- demand 3: "every station that the walk's second pass leaves out lies farther from the point than the one judged"
   pub left-out-farther : (s : ℕ) → LeftOut es p s → D es p (judged es p) < D es p s
   left-out-farther s l = omega (arith, second-best, passed .farther s (omega arith) (omega (arith, l .on)) (l .unvisited))
 

@@ -1,2 +1,2 @@
--- What the contracts of this crate cite.
+-- For the measurement only: sums over positions and over whole square roots.
 pub mod Sums

@@ -1,2 +1,2 @@
--- What the contracts of this crate cite.
+-- For the code only: residual and offset as they are returned. What they are stands in `model`.
 pub mod Sides

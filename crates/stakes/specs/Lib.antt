@@ -1,2 +1,2 @@
--- What the contracts of this crate cite.
+-- For the code only: what a move asks of its numbers. The move stands in `model`.
 pub mod StakeRanges

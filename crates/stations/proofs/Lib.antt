@@ -1,4 +1,4 @@
--- The laws of the functions over an accepted alignment.
+-- The laws of the functions over an accepted crest.
 pub mod StationTotal
 pub mod StationAt
 pub mod StationRange
@@ -6,5 +6,4 @@ pub mod StationHeld
 pub mod StationExtent
 pub mod StationAnswers
 pub mod InverseAnswers
-pub mod StationBytes
-pub mod AskSmall
+pub mod CrestSmall

@@ -1,8 +1,7 @@
-// Stations of an accepted alignment: how far they run, where one lies, and what is asked by station.
+// Stations of an accepted crest: how far they run, where one lies, and what is asked by station.
 use elements::Placement;
 use elements::rounding::near_one;
 use integers::magnitude;
-use model::Alignment;
 use model::Element;
 use model::Inverse;
 use model::Placed;
@@ -11,108 +10,109 @@ use model::Refusal;
 use model::limits;
 use model::refusals;
 use records::in_frame;
+use sources::Form;
+use sources::count_in;
+use sources::element_in;
 ghost use mathlib.Core.Bool.{_&&_};
-ghost use mathlib.Core.List.{[], _∷_};
 ghost use mathlib.Core.Path.{_≡_};
 ghost use Prim.Native.Nat.{_≤_, _<_, _^_};
 ghost use lib.Dec.{leb};
 ghost use lib.IntN.{natAbs, _*ℤ_};
-ghost use Rattle.model.specs.Stations.{used, atStation, positionAt, tangentAt, isStation, total as totalOf};
+ghost use Rattle.model.specs.Stations.{atElement, atStation, positionAt, tangentAt, isStation, total as totalOf};
 ghost use Rattle.elements.specs.Reached.{placementOf};
 ghost use Rattle.model.specs.Rounding.{ONE, near};
-ghost use Rattle.model.specs.Refusals.{rule₀, verdict, askedOutOfRange};
-ghost use Rattle.model.specs.Answers.{placedIf, widestOffset, inverseAt, inverseOn};
-ghost use Rattle.model.specs.Accepted.{Accepted, AlignmentAccepted};
+ghost use Rattle.model.specs.Answers.{placedOn, widestOffset, inverseAt, inverseOn};
+ghost use Rattle.model.specs.Accepted.{Accepted};
+ghost use Rattle.sources.specs.Sources.{elementsLent, SourceAccepted};
 
-pub mod ask;
-
-// Where a station lies: its element, and the mm from the element's start.
+// Where a station lies: its element, with its number counted from 0, and the mm from the element's start.
 pub struct OnElement {
+    pub number: usize,
     pub element: Element,
     pub s: u64,
 }
 
 // T, the last station: the sum of the lengths.
-pub fn total(a: Alignment) -> u64
-    requires { ⌜ AlignmentAccepted a ⌝ }
-    ensures { λ r. ⌜ (r ≡ totalOf (used a)) × (r ≤ 30000000) ⌝ }
+pub fn total(crest: &[u8], amendment: &[u8], form: Form) -> u64
+    requires { ⌜ SourceAccepted form (now crest) (now amendment) ⌝ }
+    ensures { λ r. ⌜ (r ≡ totalOf (elementsLent form (crest .entry) (amendment .entry))) × (r ≤ 30000000) ⌝ }
 {
-    let els = a.elements;
-    let count = a.count;
+    let count = count_in(crest, amendment, form);
     let mut i: usize = 0;
     let mut t: u64 = 0;
     while i < count {
-        let e = els[i];
-        t = t + e.length;
-        i = i + 1;
+        let e = element_in(crest, amendment, form, i);
+        t += e.length;
+        i += 1;
     }
     t
 }
 
 // The element where a station lies. A station at a join lies on the later element, T on the last.
-pub fn element_of(a: Alignment, s: u64) -> OnElement
-    requires { ⌜ AlignmentAccepted a ⌝ }
-    requires { ⌜ s ≤ totalOf (used a) ⌝ }
-    ensures { λ r. ⌜ atStation (used a) s ≡ record { element = r .element; s = r .s } ⌝ }
+pub fn element_of(crest: &[u8], amendment: &[u8], form: Form, s: u64) -> OnElement
+    requires { ⌜ SourceAccepted form (now crest) (now amendment) ⌝ }
+    requires { ⌜ s ≤ totalOf (elementsLent form crest amendment) ⌝ }
+    ensures { λ r. ⌜ atStation (elementsLent form (crest .entry) (amendment .entry)) s ≡ atElement (r .number) (r .element) (r .s) ⌝ }
     ensures reachable { λ r. ⌜ Accepted (r .element) × (r .s ≤ r .element .length) ⌝ }
 {
-    let els = a.elements;
-    let count = a.count;
+    let count = count_in(crest, amendment, form);
     let mut i: usize = 0;
     let mut rest = s;
     while i + 1 < count {
-        let e = els[i];
+        let e = element_in(crest, amendment, form, i);
         let n = e.length;
         if rest < n {
             return OnElement {
+                number: i,
                 element: e,
                 s: rest,
             };
         }
-        rest = rest - n;
-        i = i + 1;
+        rest -= n;
+        i += 1;
     }
-    let e = els[i];
+    let last = element_in(crest, amendment, form, i);
     OnElement {
-        element: e,
+        number: i,
+        element: last,
         s: rest,
     }
 }
 
 // The position and the direction at a station.
-pub fn placed_at(a: Alignment, s: u64) -> Placement
-    requires { ⌜ AlignmentAccepted a ⌝ }
-    requires { ⌜ s ≤ totalOf (used a) ⌝ }
-    ensures { λ r. ⌜ r ≡ placementOf (positionAt (used a) s) (tangentAt (used a) s) ⌝ }
+pub fn placed_at(crest: &[u8], amendment: &[u8], form: Form, s: u64) -> Placement
+    requires { ⌜ SourceAccepted form (now crest) (now amendment) ⌝ }
+    requires { ⌜ s ≤ totalOf (elementsLent form crest amendment) ⌝ }
+    ensures { λ r. ⌜ r ≡ placementOf (positionAt (elementsLent form (crest .entry) (amendment .entry)) s) (tangentAt (elementsLent form (crest .entry) (amendment .entry)) s) ⌝ }
 {
-    let at = element_of(a, s);
+    let at = element_of(crest, amendment, form, s);
     let e = at.element;
     elements::placed(elements::prepare(e), at.s)
 }
 
 // Whether a whole number is a station: 0 to T.
-fn is_station(a: Alignment, s: i64) -> bool
-    requires { ⌜ AlignmentAccepted a ⌝ }
-    ensures { λ r. ⌜ r ≡ isStation (used a) s ⌝ }
+fn is_station(crest: &[u8], amendment: &[u8], form: Form, s: i64) -> bool
+    requires { ⌜ SourceAccepted form (now crest) (now amendment) ⌝ }
+    ensures { λ r. ⌜ r ≡ isStation (elementsLent form (crest .entry) (amendment .entry)) s ⌝ }
 {
     if s < 0 {
         return false;
     }
-    s as u64 <= total(a)
+    s as u64 <= total(crest, amendment, form)
 }
 
 // The position and the direction at a station, and 15 for one that is out of range.
-pub fn place(a: Alignment, s: i64) -> Placed
-    requires { ⌜ AlignmentAccepted a ⌝ }
-    ensures { λ r. ⌜ r ≡ placedIf (verdict (rule₀ askedOutOfRange (isStation (used a) s) ∷ [])) (used a) (natAbs s) ⌝ }
+pub fn place(crest: &[u8], amendment: &[u8], form: Form, s: i64) -> Placed
+    requires { ⌜ SourceAccepted form (now crest) (now amendment) ⌝ }
+    ensures { λ r. ⌜ r ≡ placedOn (elementsLent form (crest .entry) (amendment .entry)) s ⌝ }
 {
-    if !is_station(a, s) {
+    if !is_station(crest, amendment, form, s) {
         return Placed::Refused(Refusal {
             number: refusals::ASKED_OUT_OF_RANGE,
             place: 0,
         });
     }
-    let p = placed_at(a, s as u64);
+    let p = placed_at(crest, amendment, form, s as u64);
     Placed::At {
         x: p.x,
         y: p.y,
@@ -122,11 +122,11 @@ pub fn place(a: Alignment, s: i64) -> Placed
 }
 
 // Whether a station and an offset are both in range: an offset is at most 20,000,000 grains to either side.
-fn on_line(a: Alignment, s: i64, w: i64) -> bool
-    requires { ⌜ AlignmentAccepted a ⌝ }
-    ensures { λ r. ⌜ r ≡ (isStation (used a) s && leb (natAbs w) widestOffset) ⌝ }
+fn on_line(crest: &[u8], amendment: &[u8], form: Form, s: i64, w: i64) -> bool
+    requires { ⌜ SourceAccepted form (now crest) (now amendment) ⌝ }
+    ensures { λ r. ⌜ r ≡ (isStation (elementsLent form (crest .entry) (amendment .entry)) s && leb (natAbs w) widestOffset) ⌝ }
 {
-    if !is_station(a, s) {
+    if !is_station(crest, amendment, form, s) {
         return false;
     }
     magnitude(w) <= limits::WIDEST_OFFSET
@@ -141,13 +141,13 @@ fn aside(w: i64, t: i64) -> i64
 }
 
 // The point at a station and an offset, in the frame or not.
-fn inverse_at(a: Alignment, s: u64, w: i64) -> Point
-    requires { ⌜ AlignmentAccepted a ⌝ }
-    requires { ⌜ s ≤ totalOf (used a) ⌝ }
+fn inverse_at(crest: &[u8], amendment: &[u8], form: Form, s: u64, w: i64) -> Point
+    requires { ⌜ SourceAccepted form (now crest) (now amendment) ⌝ }
+    requires { ⌜ s ≤ totalOf (elementsLent form crest amendment) ⌝ }
     requires { ⌜ natAbs w ≤ widestOffset ⌝ }
-    ensures { λ r. ⌜ r ≡ inverseAt (used a) s w ⌝ }
+    ensures { λ r. ⌜ r ≡ inverseAt (elementsLent form (crest .entry) (amendment .entry)) s w ⌝ }
 {
-    let p = placed_at(a, s);
+    let p = placed_at(crest, amendment, form, s);
     let back = aside(w, p.ty);
     let on = aside(w, p.tx);
     Point {
@@ -157,17 +157,17 @@ fn inverse_at(a: Alignment, s: u64, w: i64) -> Point
 }
 
 // The point at a station and an offset: 15 where either is out of range, 11 where the point lies outside the frame.
-pub fn inverse(a: Alignment, s: i64, w: i64) -> Inverse
-    requires { ⌜ AlignmentAccepted a ⌝ }
-    ensures { λ r. ⌜ r ≡ inverseOn (used a) s w ⌝ }
+pub fn inverse(crest: &[u8], amendment: &[u8], form: Form, s: i64, w: i64) -> Inverse
+    requires { ⌜ SourceAccepted form (now crest) (now amendment) ⌝ }
+    ensures { λ r. ⌜ r ≡ inverseOn (elementsLent form (crest .entry) (amendment .entry)) s w ⌝ }
 {
-    if !on_line(a, s, w) {
+    if !on_line(crest, amendment, form, s, w) {
         return Inverse::Refused(Refusal {
             number: refusals::ASKED_OUT_OF_RANGE,
             place: 0,
         });
     }
-    let q = inverse_at(a, s as u64, w);
+    let q = inverse_at(crest, amendment, form, s as u64, w);
     if !in_frame(q.x, q.y) {
         return Inverse::Refused(Refusal {
             number: refusals::OUTSIDE_FRAME,

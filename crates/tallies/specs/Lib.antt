@@ -1,2 +1,2 @@
--- What the contracts of this crate cite.
+-- For the comparing program only: what it counts.
 pub mod Compared

@@ -3,7 +3,7 @@ use mathlib.Core.Bool.{Bool, true, false, cond, _&&_, _||_}
 use mathlib.Core.List.{List, [], _∷_, _++_}
 use mathlib.Core.Logic.{_⊎_, inl, inr, ⊎-elim, _≢_}
 use mathlib.Core.Path.{_≡_, refl, sym, _∙_, ap, ap₂, subst}
-use Prim.Native.Nat.{ℕ, _+_, _/_, _%_, _^_, _≤_, _<_, min}
+use Prim.Native.Nat.{ℕ, _+_, _/_, _%_, _≤_, _<_, min}
 use native.Mathlib.Omega.{arith}
 use native.Mathlib.Decide.{decLt}
 use native.Mathlib.Nat.{le-refl, min-eq-right}
@@ -16,11 +16,11 @@ use Rattle.model.specs.declared.Point.{Point}
 use Rattle.model.specs.Accepted.{AllAccepted}
 use Rattle.model.specs.Stations.{total, D}
 use Rattle.model.specs.Walk.{multiplesFrom, firstVisits, firstBest, ownStations, secondFrom, secondVisits, visits, visitCount, isIn}
+use Rattle.model.proofs.Accepted.{numbers}
 use Rattle.elements.proofs.Extent.{extent}
 use Rattle.walk.specs.declared.Pass.the-variants.{First, Second}
 use Rattle.walk.specs.declared.Seen.{Seen}
-use Rattle.walk.specs.Search.{InFrame, nearer, seenAt, seenOver, passOver, walkedOf}
-use Rattle.walk.proofs.Arrays.{accepted-length}
+use Rattle.walk.specs.Search.{unreached, InFrame, nearer, seenAt, seenOver, passOver, walkedOf}
 use Rattle.walk_laws.proofs.Own.{own-between, D-own}
 use Rattle.walk_laws.proofs.Visits.{Place, here, later, place, not-in-none}
 use Rattle.walk_laws.proofs.Walked.{LeastIn, walk-best, walk-station}
@@ -141,11 +141,11 @@ first-begins : (t : ℕ) → firstVisits t ≡ 0 ∷ (multiplesFrom (t / 1000) 1
 unfolding firstVisits multiplesFrom
 first-begins t = rw (add-one (t / 1000))
 
-start-small : (es : List Element) → 0 < length es → AllAccepted es → (q : Point) → InFrame q → D es q 0 ≤ 2 ^ 62
+start-small : (es : List Element) → 0 < length es → AllAccepted es → (q : Point) → InFrame q → D es q 0 ≤ unreached
 unfolding AllAccepted total
 start-small [] h a q f = absurd (omega arith)
 start-small (e ∷ es) h a q f =
-    let own : 0 < ownStations e es = omega (arith, own-between e es, accepted-length (a .0)) in
+    let own : 0 < ownStations e es = omega (arith, own-between e es, numbers (a .0) .shortest) in
     omega (arith, D-own [] e es q 0 own, extent (a .0) {s = 0} (omega arith) .distance q (f .x) (f .y))
 
 seen-is : (r : Seen) {a b c : ℕ} → r .best ≡ a → r .at ≡ b → r .visits ≡ c → r ≡ record { best = a; at = b; visits = c }
@@ -158,15 +158,15 @@ module _ (es : List Element) (some : 0 < length es) (accepted : AllAccepted es) 
   abbrev first : List ℕ
   first = firstVisits (total es)
 
-  start-same : seenOver d first (start (2 ^ 62)) ≡ seenOver d first (start (d 0))
+  start-same : seenOver d first (start (unreached)) ≡ seenOver d first (start (d 0))
   start-same =
       let begins = first-begins (total es) in
-      ap (λ (vs : List ℕ). seenOver d vs (start (2 ^ 62))) begins
-      ∙ start-over d _ (2 ^ 62) (d 0) (start-small es some accepted q frame) (le-refl (d 0))
+      ap (λ (vs : List ℕ). seenOver d vs (start (unreached))) begins
+      ∙ start-over d _ (unreached) (d 0) (start-small es some accepted q frame) (le-refl (d 0))
       ∙ ap (λ (vs : List ℕ). seenOver d vs (start (d 0))) (sym begins)
 
-  after-first : (w : Seen) → w ≡ passOver First (D es q) es 0 (start (2 ^ 62)) → w ≡ seenOver d first (start (d 0))
-  after-first w e = e ∙ first-is d es some (start (2 ^ 62)) ∙ start-same
+  after-first : (w : Seen) → w ≡ passOver First (D es q) es 0 (start (unreached)) → w ≡ seenOver d first (start (d 0))
+  after-first w e = e ∙ first-is d es some (start (unreached)) ∙ start-same
 
   first-best : (w : Seen) → w ≡ seenOver d first (start (d 0)) → w .best ≡ firstBest d (total es)
   unfolding firstBest
@@ -185,7 +185,7 @@ module _ (es : List Element) (some : 0 < length es) (accepted : AllAccepted es) 
   begins-0 = rw (first-begins (total es))
 
   -- both passes
-  pub found : (w v : Seen) → w ≡ passOver First (D es q) es 0 (start (2 ^ 62)) → v ≡ passOver Second (D es q) es 0 w → v ≡ walkedOf es q
+  pub found : (w v : Seen) → w ≡ passOver First (D es q) es 0 (start (unreached)) → v ≡ passOver Second (D es q) es 0 w → v ≡ walkedOf es q
   unfolding walkedOf visitCount
   found w v ew ev =
       let all = visits es q in

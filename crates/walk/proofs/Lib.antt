@@ -1,5 +1,4 @@
 -- What is proved of the walk as the search keeps it.
-pub mod Arrays
 pub mod Seeing
 pub mod Passing
 pub mod Found

@@ -12,14 +12,12 @@ use lib.Dec.{eqb}
 use borrow.Author.Tests.{eq-eqb, ne-eqb, eqb-false}
 use Rattle.model.specs.declared.Element.{Element}
 use Rattle.model.specs.declared.Point.{Point}
-use Rattle.model.specs.Accepted.{Accepted, AllAccepted}
 use Rattle.model.specs.Stations.{total, D}
 use Rattle.model.specs.Walk.{multiplesFrom, firstVisits, bestOf, skipped, elementVisits, ownStations, secondFrom}
 use Rattle.walk.specs.declared.Pass.{Pass}
 use Rattle.walk.specs.declared.Pass.the-variants.{First, Second}
 use Rattle.walk.specs.declared.Seen.{Seen}
 use Rattle.walk.specs.Search.{seenAt, seenOver, onElement, above, endVisit, firstOn, passVisits, passOn, passOver}
-use Rattle.walk.proofs.Arrays.{first-accepted}
 use Rattle.walk_laws.proofs.Own.{own-between, D-own, total-at}
 use Rattle.walk_laws.proofs.Visits.{Rising, none, next, rising-from, rising-length, multiples-rise, bestOf-≤}
 use Rattle.walk.proofs.Seeing.{seenOver-++, seenOver-best, seenOver-visits}
@@ -193,17 +191,23 @@ first-is d (e ∷ es) h w =
     let k : 0 + total (e ∷ es) ≡ total (e ∷ es) = omega arith in
     first-from d e es 0 w ∙ ap (λ (t : ℕ). seenOver d (from 0 t) w) k ∙ ap (λ (vs : List ℕ). seenOver d vs w) (from-0 (total (e ∷ es)))
 
--- ---- a loop over the elements u, at the i-th: what is left of the pass is the whole
+-- ---- a loop over the elements u, at the i-th
 
+-- T is an own station of the last one
+pub own-is : (e : Element) (rest : List Element) (i count : ℕ) → i + 1 + length rest ≡ count → ownStations e rest ≡ cond (eqb (i + 1) count) (e .length + 1) (e .length)
+unfolding ownStations
+own-is e [] i count h = rw (eq-eqb (i + 1) count (omega arith))
+own-is e (f ∷ es) i count h = rw (ne-eqb (i + 1) count (λ k. absurd (omega arith)))
+
+-- what is left of the pass is the whole
 pub record Left (pass : Pass) (u : List Element) (q : Point) (w : Seen) (i : ℕ) (v : Seen) : Type 0 where
   pub rest : passOver pass (D u q) (drop i u) (total (take i u)) v ≡ passOver pass (D u q) u 0 w
-  pub accepted : AllAccepted (drop i u)
   pub best : v .best ≤ w .best
   pub visits : v .visits ≤ w .visits + total (take i u) + 2 * i
 
-pub left-start : (pass : Pass) (u : List Element) (q : Point) (w : Seen) → AllAccepted u → Left pass u q w 0 w
+pub left-start : (pass : Pass) (u : List Element) (q : Point) (w : Seen) → Left pass u q w 0 w
 unfolding total
-left-start pass u q w h = record { rest = refl; accepted = h; best = omega arith; visits = omega arith }
+left-start pass u q w = record { rest = refl; best = omega arith; visits = omega arith }
 
 first-over : (pass : Pass) (d : ℕ → ℕ) {l : List Element} {e : Element} {es : List Element} (s : ℕ) (v : Seen) → l ≡ e ∷ es → passOver pass d l s v ≡ passOver pass d es (s + e .length) (passOn pass d (e .length) (ownStations e es) s v)
 unfolding passOver
@@ -215,9 +219,6 @@ module _ (pass : Pass) (u : List Element) (q : Point) (w : Seen) (i : ℕ) (v : 
 
   abbrev s : ℕ
   s = total (take i u)
-
-  pub left-accepted : Accepted e
-  left-accepted = first-accepted split (l .accepted) .0
 
   -- where the element lies, the distance is its own
   left-same : (x : ℕ) → s ≤ x → x < s + ownStations e es → D u q x ≡ onElement e s q x
@@ -239,7 +240,6 @@ module _ (pass : Pass) (u : List Element) (q : Point) (w : Seen) (i : ℕ) (v : 
       = ap (passOver pass (D u q) es (s + e .length)) (p ∙ sym same) ∙ sym (first-over pass (D u q) s v split) ∙ l .rest in
       record {
         rest = rw (n, next) rest;
-        accepted = rw n (first-accepted split (l .accepted) .1);
         best = omega (arith, l .best, ap (λ (x : Seen). x .best) p, pass-best pass f (e .length) own s v);
         visits = rw (n, next) (omega (arith, l .visits, ap (λ (x : Seen). x .visits) p, pass-visits pass f (e .length) own s v, between .1));
       }

@@ -1,2 +1,2 @@
--- What the contracts of this crate cite.
+-- For the code only: the walk as the search keeps it, and what its functions ask. The walk itself stands in `model`.
 pub mod Search

@@ -5,16 +5,14 @@ use mathlib.Core.List.{List, [], _∷_, _++_}
 use mathlib.Core.Path.{_≡_}
 use lib.Dec.{eqb, ltb}
 use lib.IntN.{natAbs}
-use lib.ListN.{replicate}
 use Rattle.integers.specs.Root.{root}
 use Rattle.model.specs.declared.Element.{Element}
-use Rattle.model.specs.declared.Alignment.{Alignment}
 use Rattle.model.specs.declared.Point.{Point}
 use Rattle.model.specs.Acceptance.{frame, longestElement}
 use Rattle.model.specs.Series.{positionOn}
-use Rattle.model.specs.Stations.{distanceSq, D, used}
+use Rattle.model.specs.Stations.{distanceSq, D}
 use Rattle.model.specs.Judged.{judged}
-use Rattle.model.specs.Walk.{multiplesFrom, skipped, elementVisits, ownStations, bounds, visitCount}
+use Rattle.model.specs.Walk.{multiplesFrom, skipped, elementVisits, ownStations, visitCount}
 use Rattle.walk.specs.declared.Pass.{Pass}
 use Rattle.walk.specs.declared.Pass.the-variants.{First, Second}
 use Rattle.walk.specs.declared.Seen.{Seen}
@@ -26,6 +24,10 @@ use Rattle.elements.specs.Prepared.{Ready}
 pub record InFrame (q : Point) : Type 0 where
   pub x : natAbs (q .x) ≤ frame
   pub y : natAbs (q .y) ≤ frame
+
+-- the best before any visit: it lies above every squared distance of such a point
+abbrev pub unreached : ℕ
+unreached = 2 ^ 62
 
 -- ---- one visit
 
@@ -88,11 +90,6 @@ passOn pass d n own s w = seenOver d (passVisits pass d n own s (w .best)) w
 
 -- ---- all elements, of which the first begins at s
 
--- the elements' bounds in an array for 60 elements, with 0 where there are fewer
-unfoldable pub boundsIn : Alignment → List ℕ
-unfolding bounds used
-boundsIn a = bounds (used a) ++ replicate (60 - a .count) 0
-
 unfoldable pub passOver : Pass → (ℕ → ℕ) → List Element → ℕ → Seen → Seen
 unfolding passOn ownStations
 passOver pass d [] s w = w
@@ -111,5 +108,5 @@ pub record Passable (p : Prepared) (own start : ℕ) (q : Point) (w : Seen) : Ty
   pub short : own ≤ p .element .length + 1
   pub long : p .element .length ≤ longestElement
   pub early : start ≤ 30000000
-  pub best : w .best ≤ 2 ^ 62
+  pub best : w .best ≤ unreached
   pub visits : w .visits ≤ 2 ^ 61

@@ -1,9 +1,8 @@
-// The published walk: what both passes over an alignment have seen of a point.
-use model::Alignment;
+// The published walk: what both passes over a crest have seen of a point.
 use model::Point;
+use sources::Form;
 ghost use mathlib.Core.Path.{_≡_};
-ghost use Rattle.model.specs.Accepted.{AlignmentAccepted};
-ghost use Rattle.model.specs.Stations.{used};
+ghost use Rattle.sources.specs.Sources.{elementsLent, SourceAccepted};
 ghost use Rattle.walk.specs.Search.{InFrame, walkedOf};
 
 mod passes;
@@ -22,23 +21,26 @@ pub struct Seen {
     pub visits: u64,
 }
 
-// The walk. Station 0 is visited first and lies nearer than the best that it starts with, 2^62.
-pub fn walk(a: Alignment, q: Point) -> Seen
-    requires { ⌜ AlignmentAccepted a ⌝ }
+// The best that the walk starts with: it lies above every squared distance of a point in the frame.
+const UNREACHED: u64 = 1 << 62;
+
+// The walk. Station 0 is visited first and lies nearer than the best that it starts with.
+pub fn walk(crest: &[u8], amendment: &[u8], form: Form, q: Point) -> Seen
+    requires { ⌜ SourceAccepted form (now crest) (now amendment) ⌝ }
     requires { ⌜ InFrame q ⌝ }
-    ensures { λ r. ⌜ r ≡ walkedOf (used a) q ⌝ }
+    ensures { λ r. ⌜ r ≡ walkedOf (elementsLent form (crest .entry) (amendment .entry)) q ⌝ }
 {
-    let b = passes::element_bounds(a);
     let w = passes::pass_over(
         Pass::First,
-        a,
-        b,
+        crest,
+        amendment,
+        form,
         q,
         Seen {
-            best: 4611686018427387904,
+            best: UNREACHED,
             at: 0,
             visits: 0,
         },
     );
-    passes::pass_over(Pass::Second, a, b, q, w)
+    passes::pass_over(Pass::Second, crest, amendment, form, q, w)
 }

@@ -4,19 +4,19 @@ use crate::Seen;
 use crate::visit;
 use crate::visit::Stride;
 use elements::Prepared;
-use model::Alignment;
 use model::Point;
-use model::layout::MOST_RECORDS;
 use model::limits;
+use sources::Form;
+use sources::count_in;
+use sources::element_in;
+ghost use mathlib.Core.Bool.{cond};
 ghost use mathlib.Core.Path.{_≡_};
-ghost use Prim.Native.Nat.{_^_, _≤_};
-ghost use Rattle.model.specs.Accepted.{AlignmentAccepted};
-ghost use Rattle.model.specs.Stations.{used, D};
+ghost use Prim.Native.Nat.{_+_, _^_, _≤_};
+ghost use Rattle.model.specs.Acceptance.{longestElement};
+ghost use Rattle.model.specs.Stations.{D};
 ghost use Rattle.model.specs.Walk.{elementVisits};
-ghost use Rattle.walk.specs.Search.{InFrame, seenOver, onElement, firstOn, endVisit, passOn, passOver, boundsIn, Passable};
-
-// The bounds of 60 elements at most: one before each, and one after the last.
-pub type Bounds = [u64; MOST_RECORDS + 1];
+ghost use Rattle.sources.specs.Sources.{elementsLent, SourceAccepted};
+ghost use Rattle.walk.specs.Search.{unreached, InFrame, seenOver, onElement, firstOn, endVisit, passOn, passOver, Passable};
 
 // Added before a division by the step, it rounds up.
 const ROUND_UP: u64 = limits::FIRST_STEP - 1;
@@ -87,43 +87,36 @@ fn pass_on(pass: Pass, p: Prepared, own: u64, start: u64, q: Point, w: Seen) -> 
     }
 }
 
-// Each element's first station, and T + 1 after the last: the station of a join is the next element's, and T the last one's.
-pub fn element_bounds(a: Alignment) -> Bounds
-    requires { ⌜ AlignmentAccepted a ⌝ }
-    ensures { λ r. ⌜ r ≡ boundsIn a ⌝ }
+// How many stations are an element's own, of one that is n mm long: T is the last one's.
+fn own_of(n: u64, last: bool) -> u64
+    requires { ⌜ n ≤ longestElement ⌝ }
+    ensures { λ r. ⌜ r ≡ cond last (n + 1) n ⌝ }
 {
-    let count = a.count;
-    let mut b: Bounds = [0; MOST_RECORDS + 1];
-    let mut k: usize = 0;
-    let mut s: u64 = 0;
-    while k < count {
-        let e = a.elements[k];
-        b[k] = s;
-        s += e.length;
-        k += 1;
+    if last {
+        return n + 1;
     }
-    b[count] = s + 1;
-    b
+    n
 }
 
-// A pass over all elements, each prepared once.
-pub fn pass_over(pass: Pass, a: Alignment, b: Bounds, q: Point, w: Seen) -> Seen
-    requires { ⌜ AlignmentAccepted a ⌝ }
-    requires { ⌜ b ≡ boundsIn a ⌝ }
+// A pass over all elements, each read and prepared once.
+pub fn pass_over(pass: Pass, crest: &[u8], amendment: &[u8], form: Form, q: Point, w: Seen) -> Seen
+    requires { ⌜ SourceAccepted form (now crest) (now amendment) ⌝ }
     requires { ⌜ InFrame q ⌝ }
-    requires { ⌜ (w .best ≤ 2 ^ 62) × (w .visits ≤ 2 ^ 40) ⌝ }
-    ensures { λ r. ⌜ r ≡ passOver pass (D (used a) q) (used a) 0 w ⌝ }
+    requires { ⌜ (w .best ≤ unreached) × (w .visits ≤ 2 ^ 40) ⌝ }
+    ensures { λ r. ⌜ r ≡ passOver pass (D (elementsLent form (crest .entry) (amendment .entry)) q) (elementsLent form (crest .entry) (amendment .entry)) 0 w ⌝ }
 {
-    let count = a.count;
+    let count = count_in(crest, amendment, form);
     let mut i: usize = 0;
+    let mut start: u64 = 0;
     let mut v = w;
     while i < count {
-        let e = a.elements[i];
-        let p = elements::prepare(e);
-        let start = b[i];
-        let own = b[i + 1] - start;
+        let p = elements::prepare(element_in(crest, amendment, form, i));
+        let e = p.element;
+        let n = e.length;
+        let own = own_of(n, i + 1 == count);
         v = pass_on(pass, p, own, start, q, v);
         i += 1;
+        start += n;
     }
     v
 }

@@ -12,7 +12,7 @@ ghost use Rattle.model.specs.Series.{positionOn};
 ghost use Rattle.model.specs.Stations.{distanceSq};
 ghost use Rattle.elements.specs.Extent.{widestPosition};
 ghost use Rattle.elements.specs.Prepared.{Ready};
-ghost use Rattle.walk.specs.Search.{InFrame, seenAt, Known, Strided};
+ghost use Rattle.walk.specs.Search.{unreached, InFrame, seenAt, Known, Strided};
 
 // The step to the next station: how many stations it leaves out, and for the steps after it the whole root b of the best and
 // the square of b + 31, below which none is left out. Where the limit is 0, the root is not taken yet.
@@ -74,7 +74,7 @@ pub fn seen(d: u64, s: u64, w: Seen) -> Seen
 
 // The root of the best and its limit, taken where they are not known.
 fn rooted(best: u64, t: Stride) -> Stride
-    requires { ⌜ best ≤ 2 ^ 62 ⌝ }
+    requires { ⌜ best ≤ unreached ⌝ }
     requires { ⌜ Known best t ⌝ }
     ensures { λ r. ⌜ (r .root ≡ root best) × (r .limit ≡ (root best + 31) * (root best + 31)) ⌝ }
 {
@@ -104,7 +104,7 @@ fn left_out(d: u64, b: u64, limit: u64) -> u64
 
 // The step after a station at the squared distance `d`, where the best before it was `best`.
 pub fn stepped(d: u64, best: u64, t: Stride) -> Stride
-    requires { ⌜ best ≤ 2 ^ 62 ⌝ }
+    requires { ⌜ best ≤ unreached ⌝ }
     requires { ⌜ Known best t ⌝ }
     ensures { λ r. ⌜ Strided d best r ⌝ }
 {

@@ -1,2 +1,2 @@
--- What the contracts cite beside the model's definitions.
+-- For the code only: a whole number in 64 bits. Which float is whole stands in `model`.
 pub mod WholeNumbers

@@ -15,13 +15,14 @@ use Rattle.model.specs.declared.Element.{Element}
 use Rattle.model.specs.declared.Point.{Point}
 use Rattle.model.specs.declared.Located.the-variants.{At as LocatedAt}
 use Rattle.model.specs.Acceptance.{inFrame}
-use Rattle.model.specs.Stations.{used, total, positionAt, tangentAt, D}
+use Rattle.model.specs.Stations.{total, positionAt, tangentAt, D}
 use Rattle.model.specs.Judged.{judged, residualAt, offsetAt}
 use Rattle.model.specs.Walk.{visitCount}
 use Rattle.model.specs.Answers.{farthest, pastEnd}
 use Rattle.model.proofs.Judged.{judged-least}
 use Rattle.elements.specs.declared.Placement.{Placement}
 use Rattle.elements.specs.Extent.{Placeable}
+use Rattle.sources.specs.Sources.{elementsLent}
 use Rattle.stations.proofs.StationExtent.{station-placeable}
 use Rattle.walk.specs.declared.Seen.{Seen}
 use Rattle.records.proofs.Frame.{framed as within-frame}
@@ -37,25 +38,25 @@ use Rattle.nearest.proofs.locate.Tie as tie
 in-frame : (q : Point) → inFrame (q .x) (q .y) ≡ true → InFrame q
 in-frame q e = let b = within-frame (q .x) (q .y) e in record { x = b .0; y = b .1 }
 
-framed : (c : tie.After-in-frame) → let q = c .before .before .before .args .q in c .in-frame .result ≡ inFrame (q .x) (q .y)
+framed : (c : tie.After-in-frame) → let q = c .before .before .before .before .before .args .q in c .in-frame .result ≡ inFrame (q .x) (q .y)
 framed c =
-    let q = c .before .before .before .args .q in
+    let q = c .before .before .before .before .before .args .q in
     let told = c .before .struct-told2 .given in
     let x = toZ-ofZ {w = w64} {z = q .x} (record { sfits = told .0 .1 }) in
     let y = toZ-ofZ {w = w64} {z = q .y} (record { sfits = told .1 .0 .1 }) in
     c .in-frame .ensures ∙ ap₂ inFrame x y
 
-inside : (c : tie.Else1) → let q = c .before .before .before .before .args .q in inFrame (q .x) (q .y) ≡ true
+inside : (c : tie.Else1) → let q = c .before .before .before .before .before .before .args .q in inFrame (q .x) (q .y) ≡ true
 inside c = sym (framed (c .before)) ∙ not-false _ (c .if1 .left)
 
 -- ---- the station judged
 
 module _ (c : tie.After-walk) where
   abbrev start : tie.Start
-  start = c .before .before .before .before .before
+  start = c .before .before .before .before .before .before .before
 
   abbrev es : List Element
-  es = used (start .args .a)
+  es = elementsLent (start .args .form) (start .args .crest) (start .args .amendment)
 
   abbrev q : Point
   q = start .args .q
@@ -66,19 +67,19 @@ module _ (c : tie.After-walk) where
   abbrev w : Seen
   w = c .walk .result
 
-  at-is : w .at ≡ judged (used (start .args .a)) (start .args .q)
+  at-is : w .at ≡ s
   unfolding walkedOf
   at-is = ap (λ (x : Seen). x .at) (c .walk .ensures)
 
-  best-is : w .best ≡ D (used (start .args .a)) (start .args .q) (judged (used (start .args .a)) (start .args .q))
+  best-is : w .best ≡ D es q s
   unfolding walkedOf
   best-is = ap (λ (x : Seen). x .best) (c .walk .ensures)
 
-  visits-is : w .visits ≡ visitCount (used (start .args .a)) (start .args .q)
+  visits-is : w .visits ≡ visitCount es q
   unfolding walkedOf
   visits-is = ap (λ (x : Seen). x .visits) (c .walk .ensures)
 
-  at-within : w .at ≤ total (used (start .args .a))
+  at-within : w .at ≤ total es
   at-within = omega (arith, at-is, judged-least es q .within)
 
 -- ---- residual and offset there
@@ -135,11 +136,11 @@ refused-requires c κs = search needs
 returns : tie.Need-returns
 returns c =
     let f = c .before .before in
-    let a = f .before .before .before .args in
-    c .refused .ensures ∙ sym (gives-11 (used (a .a)) (a .q) (sym (framed f) ∙ not-true _ (c .before .if1 .taken)))
+    let a = f .before .before .before .before .before .args in
+    c .refused .ensures ∙ sym (gives-11 (elementsLent (a .form) (a .crest) (a .amendment)) (a .q) (sym (framed f) ∙ not-true _ (c .before .if1 .taken)))
 
 walk-requires : tie.Need-walk-requires
-walk-requires c κs = let a = c .before .before .before .before in (a .pre, in-frame (a .args .q) (inside c))
+walk-requires c κs = let a = c .before .before .before .before .before .before in (a .pre, in-frame (a .args .q) (inside c))
 
 refused-requires-2 : tie.Need-refused-requires-2
 refused-requires-2 c κs = search needs
@@ -156,7 +157,7 @@ to-point-requires : tie.Need-to-point-requires
 to-point-requires c κs =
     let w = c .before .before .before in
     let a = start w in (
-      subst Placeable (sym (c .placed-at .ensures)) (station-placeable (es w) (c .before .before .before .walk .result .at) (a .pre .each) (at-within w)),
+      subst Placeable (sym (c .placed-at .ensures)) (station-placeable (es w) (c .before .before .before .walk .result .at) (a .pre .alignment .each) (at-within w)),
       in-frame (q w) (inside (w .before)),
     )
 

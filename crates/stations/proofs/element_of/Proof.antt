@@ -1,99 +1,107 @@
--- `stations::element_of` meets its contract: at the i-th element the rest of the way leads to the same place as the whole from the first.
-use Prim.Native.Nat.{ℕ, suc, _-_, _≤_, _<_}
-use mathlib.Core.List.{List, [], _∷_}
-use mathlib.Core.Path.{_≡_, refl, ap, subst, _∙_}
+-- `stations::element_of` meets its contract. The invariant: the lengths of the elements before, and the rest of the way, are the station.
+use Prim.Native.Nat.{ℕ, suc, _+_, _-_, _≤_, _<_}
+use mathlib.Core.List.{List, []}
+use mathlib.Core.Path.{_≡_, ap, _∙_}
 use native.Mathlib.Omega.{arith}
 use native.Mathlib.Numerals.{add-one}
-use borrow.Author.Needs.{needs}
-use lib.ListN.{length, getD, take, drop, drop-of-length-le}
-use lib.Seq.{length-take-le}
+use lib.ListN.{length, take, drop, drop-of-length-le}
+use lib.Seq.{take-length}
 use Rattle.model.specs.declared.Element.{Element}
-use Rattle.model.specs.Stations.{AtElement, used, atStation, noElement}
+use Rattle.model.specs.Stations.{atElement, atStation, total}
+use Rattle.model.specs.Walk.{ownStations}
 use Rattle.model.specs.Accepted.{Accepted}
-use Rattle.joins.proofs.JoinElements.{length-mapped}
-use Rattle.stations.proofs.StationTotal.{used-at}
-use Rattle.stations.proofs.StationAt.{Reachable, at-first, at-later, at-last, at-reachable}
+use Rattle.walk_laws.proofs.Own.{own-between}
+use Rattle.sources.specs.Sources.{elementsIn, elementsLent}
+use Rattle.sources.proofs.RecordsRead.{RecordsRead, elementIn, read-asks, read-at, read-length, read-count, read-accepted}
+use Rattle.stations.proofs.StationTotal.{read-ends}
+use Rattle.stations.proofs.StationAt.{at-number}
 use Rattle.stations.proofs.element_of.Statement.{statement}
 use Rattle.stations.proofs.element_of.Tie as tie
 
 abbrev Inv-loop : tie.InvT-loop
-Inv-loop s els count i₀ rest₀ i rest = (i < count) × (length (take count els) ≡ count) × (atStation (take count els) s ≡ atStation (drop i (take count els)) rest)
+Inv-loop crest amendment form s count i₀ rest₀ i rest = RecordsRead form crest amendment count × (i < count) × (total (take i (elementsIn form crest amendment)) + rest ≡ s)
 
 abbrev μ-loop : tie.MeasureT-loop
-μ-loop s els count i₀ rest₀ i rest = count - i
+μ-loop crest amendment form s count i₀ rest₀ i rest = count - i
 
 module _ (c : tie.At-loop Inv-loop μ-loop) where
-  abbrev us : List Element
-  us = take (c .before .before .args .a .count) (c .before .before .args .a .elements)
+  abbrev start : tie.Start Inv-loop μ-loop
+  start = c .before .before .before .before
 
-  abbrev el : ℕ → Element
-  el i = getD (c .before .before .args .a .elements) i noElement
+  abbrev es : List Element
+  es = elementsLent (start .args .form) (start .args .crest) (start .args .amendment)
 
-  begins : (i : ℕ) → i < c .before .before .args .a .count → drop i us ≡ el i ∷ drop (suc i) us
-  begins i h = used-at (c .before .before .args .a .elements) (c .before .before .args .a .count) i noElement h (omega (arith, c .loop .inv .1))
+  abbrev el : Element
+  el = elementIn (start .args .form) (start .args .crest .now) (start .args .amendment .now) (c .loop .i)
 
-  -- a place that is the station's answers, and is reachable
-  answers : {at : AtElement} → atStation (drop (c .loop .i) us) (c .loop .rest) ≡ at → (atStation us (c .before .before .args .s) ≡ at) × (Accepted (at .element) × (at .s ≤ at .element .length))
-  unfolding used
-  answers q =
-      let r = c .before .before .pre in
-      let e = c .loop .inv .2 ∙ q in
-      let g = subst Reachable e (at-reachable us (c .before .before .args .s) (omega (arith, c .loop .inv .1, r .0 .some)) (r .0 .each) (r .1)) in
-      (e, (g .accepted, g .within))
+  abbrev after : List Element
+  after = drop (suc (c .loop .i)) es
 
--- two elements or more are left
-two : (c : tie.In-loop Inv-loop μ-loop) → let i = c .before .loop .i in drop i (us (c .before)) ≡ el (c .before) i ∷ el (c .before) (suc i) ∷ drop (suc (suc i)) (us (c .before))
-two c =
-    let i = c .before .loop .i in
-    begins (c .before) i (omega arith) ∙ ap (λ (l : List Element). el (c .before) i ∷ l) (begins (c .before) (suc i) (omega arith))
+  -- the element of this turn answers, where the rest is an own station of it
+  answers : {e : Element} → e ≡ el → c .loop .rest < ownStations el after → c .loop .rest ≤ el .length →
+      (atStation es (start .args .s) ≡ atElement (c .loop .i) e (c .loop .rest)) × (Accepted e × (c .loop .rest ≤ e .length))
+  answers q own within =
+      let l = c .loop in
+      let r = l .inv .0 in
+      let at = at-number es (l .i) el (l .rest) (omega (arith, read-length r, l .inv .1)) (read-at r (l .i) (l .inv .1)) own in
+      rw q (rw (l .inv .2) at at, (read-accepted r (l .i) (l .inv .1), within))
+
+count-in-requires : tie.Need-count-in-requires Inv-loop μ-loop
+count-in-requires c κs = c .before .before .pre .0 .readable
 
 loop-holds : tie.Need-loop-holds Inv-loop μ-loop
+unfolding total
 loop-holds c =
-    let a = c .before .args .a in
-    let n : length (a .elements) ≡ 60 = search length-mapped depth 8 in
-    (omega (arith, c .before .pre .0 .some), length-take-le (a .count) (a .elements) (omega (arith, c .before .pre .0 .most)), refl)
+    let s = c .before .before .before in
+    let a = s .args in
+    let r : RecordsRead (a .form) (a .crest .now) (a .amendment .now) (c .count-in .result) = record { source = s .pre .0; all = c .count-in .ensures } in
+    (r, omega (arith, read-count r .0), omega arith)
 
 add-loop : tie.Need-add-loop Inv-loop μ-loop
-add-loop c = search needs
+add-loop c = omega (arith, read-count (c .loop .inv .0), c .loop .inv .1)
 
-mul-e : tie.Need-mul-e Inv-loop μ-loop
-mul-e c = search needs
+element-in-requires : tie.Need-element-in-requires Inv-loop μ-loop
+element-in-requires c κs = let l = c .before .loop in read-asks (l .inv .0) (l .i) (l .inv .1)
 
-array-copy-out-e : tie.Need-array-copy-out-e Inv-loop μ-loop
-array-copy-out-e c = omega (arith, c .before .before .before .pre .0 .most)
+length-is : (c : tie.After-element-in Inv-loop μ-loop) → c .element-in .result .length ≡ el (c .before .before) .length
+length-is c = ap (λ (e : Element). e .length) (c .element-in .ensures)
 
 returns : tie.Need-returns Inv-loop μ-loop
-unfolding used
 returns c =
-    let o = c .before .before in
-    answers (o .before) (at-first (o .before .loop .rest) (two o) (c .if1 .taken))
+    let e = c .before in
+    let o = e .before .before in
+    let short : o .loop .rest < el o .length = omega (arith, c .if1 .taken, length-is e) in
+    answers o (e .element-in .ensures) (omega (arith, own-between (el o) (after o))) (omega arith)
 
 add-i : tie.Need-add-i Inv-loop μ-loop
-add-i c = search needs
+add-i c = let o = c .before .before in omega (arith, read-count (o .before .loop .inv .0), o .loop-test .taken)
 
 loop-less : tie.Need-loop-less Inv-loop μ-loop
-loop-less c = search needs
+loop-less c = omega arith
 
 loop-again : tie.Need-loop-again Inv-loop μ-loop
 loop-again c =
-    let o = c .before .before in
+    let e = c .before in
+    let o = e .before in
     let l = o .before .loop in
-    let e = begins (o .before) (suc (l .i)) (omega (arith, o .loop-test .taken)) in
-    (omega (arith, o .loop-test .taken), l .inv .1, rw (add-one (l .i), e) (l .inv .2 ∙ at-later (l .rest) (two o) (c .if1 .left)))
+    let ends = read-ends (l .inv .0) (l .i) (l .inv .1) in
+    (l .inv .0, omega (arith, o .loop-test .taken), rw (add-one (l .i)) (omega (arith, ends .0, l .inv .2, length-is e, c .if1 .left)))
 
-mul-e-2 : tie.Need-mul-e-2 Inv-loop μ-loop
-mul-e-2 c = search needs
+element-in-requires-2 : tie.Need-element-in-requires-2 Inv-loop μ-loop
+element-in-requires-2 c κs = let l = c .before .loop in read-asks (l .inv .0) (l .i) (l .inv .1)
 
-array-copy-out-e-2 : tie.Need-array-copy-out-e-2 Inv-loop μ-loop
-array-copy-out-e-2 c = omega (arith, c .before .before .before .pre .0 .most)
-
+-- after the last element none comes, and T is its end
 returns-2 : tie.Need-returns-2 Inv-loop μ-loop
-unfolding used
+unfolding ownStations
 returns-2 c =
     let o = c .before .before in
-    let i = o .loop .i in
-    let none : drop (suc i) (us o) ≡ [] = drop-of-length-le (us o) {i = suc i} (omega (arith, o .loop .inv .1, c .before .loop-test .left)) in
-    answers o (at-last (o .loop .rest) (begins o i (o .loop .inv .0) ∙ ap (λ (l : List Element). el o i ∷ l) none))
+    let l = o .loop in
+    let r = l .inv .0 in
+    let end : suc (l .i) ≡ length (es o) = omega (arith, read-length r, l .inv .1, c .before .loop-test .left) in
+    let none : after o ≡ [] = drop-of-length-le (es o) {i = suc (l .i)} (omega arith) in
+    let whole : total (take (suc (l .i)) (es o)) ≡ total (es o) = ap (λ (k : ℕ). total (take k (es o))) end ∙ ap total (take-length (es o)) in
+    let within : l .rest ≤ el o .length = omega (arith, read-ends r (l .i) (l .inv .1) .0, whole, l .inv .2, start o .pre .1) in
+    answers o (c .element-in2 .ensures) (rw none (omega arith)) within
 
 pub element-of-spec : {M : Type 1} → statement M
 element-of-spec =
@@ -101,14 +109,13 @@ element-of-spec =
     (tie.spec
     Inv-loop
     μ-loop
+    count-in-requires
     loop-holds
     add-loop
-    mul-e
-    array-copy-out-e
+    element-in-requires
     returns
     add-i
     loop-less
     loop-again
-    mul-e-2
-    array-copy-out-e-2
+    element-in-requires-2
     returns-2)

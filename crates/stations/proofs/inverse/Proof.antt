@@ -1,5 +1,6 @@
 -- `stations::inverse` meets its contract: 15, then 11, then the point.
 use mathlib.Core.Bool.{Bool, true, _&&_, and-eq-true-iff}
+use mathlib.Core.List.{List}
 use mathlib.Core.Path.{_≡_, sym, ap, ap₂, _∙_}
 use borrow.Author.Needs.{needs}
 use borrow.Author.Tests.{not-true, not-false, leb-true}
@@ -7,42 +8,50 @@ use lib.Dec.{leb}
 use lib.IntN.{ℤ, natAbs}
 use mir.Facts.{toZ-ofZ}
 use mir.Syntax.{w64}
+use Rattle.model.specs.declared.Element.{Element}
 use Rattle.model.specs.declared.Point.{Point}
 use Rattle.model.specs.Acceptance.{inFrame}
-use Rattle.model.specs.Stations.{used, isStation}
+use Rattle.model.specs.Stations.{isStation}
 use Rattle.model.specs.Answers.{widestOffset, inverseAt}
 use Rattle.elements.proofs.Widths.{held}
+use Rattle.sources.specs.Sources.{elementsLent}
 use Rattle.stations.proofs.StationRange.{station-within, held-casts}
 use Rattle.stations.proofs.InverseAnswers.{inverse-off-line, inverse-outside, inverse-inside}
 use Rattle.stations.proofs.inverse.Statement.{statement}
 use Rattle.stations.proofs.inverse.Tie as tie
 
+abbrev es : tie.Start → List Element
+es s = elementsLent (s .args .form) (s .args .crest) (s .args .amendment)
+
 -- whether station and offset are in range, of the numbers as they came
 abbrev on : tie.Start → Bool
-on c = isStation (used (c .args .a)) (c .args .s) && leb (natAbs (c .args .w)) widestOffset
+on s = isStation (es s) (s .args .s) && leb (natAbs (s .args .w)) widestOffset
 
-tested : (c : tie.After-on-line) → c .on-line .result ≡ on (c .before)
-tested c = c .on-line .ensures ∙ ap₂ (λ (s w : ℤ). isStation (used (c .before .args .a)) s && leb (natAbs w) widestOffset) (toZ-ofZ (c .before .fits .s)) (toZ-ofZ (c .before .fits .w))
+tested : (c : tie.After-on-line) → c .on-line .result ≡ on (c .before .before .before)
+tested c =
+    let s = c .before .before .before in
+    c .on-line .ensures ∙ ap₂ (λ (n w : ℤ). isStation (es s) n && leb (natAbs w) widestOffset) (toZ-ofZ (s .fits .s)) (toZ-ofZ (s .fits .w))
 
 module _ (c : tie.Else1) where
-  on-line : on (c .before .before) ≡ true
-  on-line = sym (tested (c .before)) ∙ not-false _ (c .if1 .left)
-
-  both : let a = c .before .before .args in (isStation (used (a .a)) (a .s) ≡ true) × (leb (natAbs (a .w)) widestOffset ≡ true)
-  both = let a = c .before .before .args in and-eq-true-iff (isStation (used (a .a)) (a .s)) (leb (natAbs (a .w)) widestOffset) .0 on-line
-
--- the point, and its coordinates through their bits
-module _ (c : tie.After-struct-told) where
   abbrev start : tie.Start
   start = c .before .before .before .before
 
+  on-line : on start ≡ true
+  on-line = sym (tested (c .before)) ∙ not-false _ (c .if1 .left)
+
+  both : (isStation (es start) (start .args .s) ≡ true) × (leb (natAbs (start .args .w)) widestOffset ≡ true)
+  both = and-eq-true-iff (isStation (es start) (start .args .s)) (leb (natAbs (start .args .w)) widestOffset) .0 on-line
+
+-- the point, and its coordinates through their bits
+module _ (c : tie.After-struct-told) where
+  abbrev asked : tie.Start
+  asked = start (c .before .before)
+
   abbrev q : Point
-  q = inverseAt (used (start .args .a)) (natAbs (start .args .s)) (start .args .w)
+  q = inverseAt (es asked) (natAbs (asked .args .s)) (asked .args .w)
 
   point : c .before .inverse-at .result ≡ q
-  point =
-      c .before .inverse-at .ensures
-      ∙ ap₂ (λ (s w : ℤ). inverseAt (used (start .args .a)) (natAbs s) w) (toZ-ofZ (start .fits .s)) (toZ-ofZ (start .fits .w))
+  point = c .before .inverse-at .ensures ∙ ap₂ (λ (s w : ℤ). inverseAt (es asked) (natAbs s) w) (toZ-ofZ (asked .fits .s)) (toZ-ofZ (asked .fits .w))
 
   x-is : held (c .before .inverse-at .result .x) ≡ q .x
   x-is = toZ-ofZ {w = w64} (record { sfits = c .struct-told .given .0 .1 }) ∙ ap (λ (p : Point). p .x) point
@@ -58,18 +67,18 @@ on-line-requires c κs = search needs
 
 returns : tie.Need-returns
 returns c =
-    let a = c .before .before .args in
-    sym (inverse-off-line (used (a .a)) (a .s) (a .w) (sym (tested (c .before)) ∙ not-true _ (c .if1 .taken)))
+    let s = c .before .before .before .before in
+    sym (inverse-off-line (es s) (s .args .s) (s .args .w) (sym (tested (c .before)) ∙ not-true _ (c .if1 .taken)))
 
 cast-inverse-at : tie.Need-cast-inverse-at
 cast-inverse-at c =
-    let b = c .before .before in
-    held-casts (b .fits .s) (station-within (used (b .args .a)) (b .args .s) (both c .0) .0)
+    let s = start c in
+    held-casts (s .fits .s) (station-within (es s) (s .args .s) (both c .0) .0)
 
 inverse-at-requires : tie.Need-inverse-at-requires
 inverse-at-requires c κs =
-    let b = c .before .before in
-    (b .pre, (rw (toZ-ofZ (b .fits .s)) (station-within (used (b .args .a)) (b .args .s) (both c .0) .1), rw (toZ-ofZ (b .fits .w)) (leb-true (natAbs (b .args .w)) widestOffset (both c .1))))
+    let s = start c in
+    (s .pre, (rw (toZ-ofZ (s .fits .s)) (station-within (es s) (s .args .s) (both c .0) .1), rw (toZ-ofZ (s .fits .w)) (leb-true (natAbs (s .args .w)) widestOffset (both c .1))))
 
 in-frame-requires : tie.Need-in-frame-requires
 in-frame-requires c κs = search needs
@@ -77,15 +86,15 @@ in-frame-requires c κs = search needs
 returns-2 : tie.Need-returns-2
 returns-2 c =
     let d = c .before .before .before in
-    let a = start d .args in
-    sym (inverse-outside (used (a .a)) (a .s) (a .w) (on-line (d .before .before)) (framed (c .before) ∙ not-true _ (c .if2 .taken)))
+    let s = asked d in
+    sym (inverse-outside (es s) (s .args .s) (s .args .w) (on-line (d .before .before)) (framed (c .before) ∙ not-true _ (c .if2 .taken)))
 
 returns-3 : tie.Need-returns-3
 returns-3 c =
     let e = c .before in
     let d = e .before .before .before in
-    let a = start d .args in
-    rw (x-is d, y-is d) (sym (inverse-inside (used (a .a)) (a .s) (a .w) (on-line (d .before .before)) (framed (e .before) ∙ not-false _ (e .if2 .left))))
+    let s = asked d in
+    rw (x-is d, y-is d) (sym (inverse-inside (es s) (s .args .s) (s .args .w) (on-line (d .before .before)) (framed (e .before) ∙ not-false _ (e .if2 .left))))
 
 pub inverse-spec : {M : Type 1} → statement M
 inverse-spec =

@@ -1,18 +1,21 @@
 -- `stations::inverse_at` meets its contract: each coordinate fits, and is the definition's.
+use mathlib.Core.List.{List}
 use mathlib.Core.Path.{_≡_, ap, ap₂, _∙_}
 use native.Mathlib.Omega.{arith}
 use Prim.Native.Nat.{_≤_, _<_, _^_}
 use borrow.Author.Needs.{needs}
 use lib.IntN.{ℤ, natAbs, _+ℤ_, _-ℤ_, _*ℤ_}
 use Rattle.integers.proofs.Abs.{natAbs-+, natAbs--}
+use Rattle.model.specs.declared.Element.{Element}
 use Rattle.model.specs.declared.Point.{Point}
 use Rattle.model.specs.Rounding.{ONE, near}
-use Rattle.model.specs.Stations.{used, positionAt, tangentAt}
+use Rattle.model.specs.Stations.{positionAt, tangentAt}
 use Rattle.model.specs.Answers.{widestOffset, inverseAt}
 use Rattle.elements.specs.declared.Placement.{Placement}
 use Rattle.elements.specs.Reached.{placementOf}
 use Rattle.elements.specs.Extent.{Placeable}
 use Rattle.elements.proofs.Widths.{held, held-small, held-as, natAbs-held}
+use Rattle.sources.specs.Sources.{elementsLent}
 use Rattle.stations.proofs.StationExtent.{station-placeable, near-aside-within}
 use Rattle.stations.proofs.StationHeld.{Computed, computed}
 use Rattle.stations.proofs.inverse_at.Statement.{statement}
@@ -20,14 +23,17 @@ use Rattle.stations.proofs.inverse_at.Tie as tie
 
 -- the position and the direction at the station
 module _ (c : tie.Start) where
+  abbrev es : List Element
+  es = elementsLent (c .args .form) (c .args .crest) (c .args .amendment)
+
   abbrev p : Point
-  p = positionAt (used (c .args .a)) (c .args .s)
+  p = positionAt es (c .args .s)
 
   abbrev t : Point
-  t = tangentAt (used (c .args .a)) (c .args .s)
+  t = tangentAt es (c .args .s)
 
   bounds : Placeable (placementOf p t)
-  bounds = station-placeable (used (c .args .a)) (c .args .s) (c .pre .0 .each) (c .pre .1 .0)
+  bounds = station-placeable es (c .args .s) (c .pre .0 .alignment .each) (c .pre .1 .0)
 
   -- an offset along a component: what is asked, and how large it is
   module _ {u v : ℤ} (e : u ≡ v) (h : natAbs v < 2 ^ 31) where
@@ -44,26 +50,29 @@ placed-at-requires : tie.Need-placed-at-requires
 placed-at-requires c κs = search needs
 
 module _ (c : tie.After-placed-at) where
-  abbrev is : (f : Placement → ℤ) → f (c .placed-at .result) ≡ f (placementOf (p (c .before)) (t (c .before)))
+  abbrev start : tie.Start
+  start = c .before .before .before
+
+  abbrev is : (f : Placement → ℤ) → f (c .placed-at .result) ≡ f (placementOf (p start) (t start))
   is f = ap f (c .placed-at .ensures)
 
-  is-tx : c .placed-at .result .tx ≡ t (c .before) .x
+  is-tx : c .placed-at .result .tx ≡ t start .x
   is-tx = is (λ (q : Placement). q .tx)
 
-  is-ty : c .placed-at .result .ty ≡ t (c .before) .y
+  is-ty : c .placed-at .result .ty ≡ t start .y
   is-ty = is (λ (q : Placement). q .ty)
 
 aside-requires : tie.Need-aside-requires
-aside-requires c κs = asked (c .before .before) (is-ty (c .before)) (bounds (c .before .before) .ty)
+aside-requires c κs = let s = start (c .before) in asked s (is-ty (c .before)) (bounds s .ty)
 
 module _ (c : tie.After-aside) where
   abbrev o : tie.After-placed-at
   o = c .before .before
 
   -- X less the offset along Ty
-  less : Computed _-ℤ_ (p (o .before) .x) (near (o .before .args .w *ℤ t (o .before) .y) ONE) (o .placed-at .result .x) (c .aside .result)
+  less : let s = start o in Computed _-ℤ_ (p s .x) (near (s .args .w *ℤ t s .y) ONE) (o .placed-at .result .x) (c .aside .result)
   less =
-      let s = o .before in
+      let s = start o in
       let b = bounds s in
       let m = near (s .args .w *ℤ t s .y) ONE in
       let k = near-aside-within (s .args .w) (t s .y) (s .pre .1 .1) (b .ty) in
@@ -72,23 +81,23 @@ module _ (c : tie.After-aside) where
 aside-requires-2 : tie.Need-aside-requires-2
 aside-requires-2 c κs =
     let x = o (c .before) in
-    asked (x .before) (is-tx x) (bounds (x .before) .tx)
+    asked (start x) (is-tx x) (bounds (start x) .tx)
 
 -- Y with the offset along Tx
-more : (c : tie.After-aside2) → let x = o (c .before .before) in Computed _+ℤ_ (p (x .before) .y) (near (x .before .args .w *ℤ t (x .before) .x) ONE) (x .placed-at .result .y) (c .aside2 .result)
+more : (c : tie.After-aside2) → let x = o (c .before .before) in let s = start x in Computed _+ℤ_ (p s .y) (near (s .args .w *ℤ t s .x) ONE) (x .placed-at .result .y) (c .aside2 .result)
 more c =
     let x = o (c .before .before) in
-    let s = x .before in
+    let s = start x in
     let b = bounds s in
     let m = near (s .args .w *ℤ t s .x) ONE in
     let k = near-aside-within (s .args .w) (t s .x) (s .pre .1 .1) (b .tx) in
     computed _+ℤ_ (is x (λ (q : Placement). q .y)) (moved s (is-tx x) (b .tx) (c .aside2 .ensures)) (omega (arith, b .y)) (omega (arith, k)) (omega (arith, natAbs-+ (p s .y) m, b .y, k))
 
-sub-t7 : tie.Need-sub-t7
-sub-t7 c = less (c .before .before .before .before) .fits
+sub-t9 : tie.Need-sub-t9
+sub-t9 c = less (c .before .before .before .before) .fits
 
-add-t8 : tie.Need-add-t8
-add-t8 c = more (c .before .before .before .before) .fits
+add-t10 : tie.Need-add-t10
+add-t10 c = more (c .before .before .before .before) .fits
 
 returns : tie.Need-returns
 unfolding inverseAt
@@ -100,4 +109,4 @@ returns c =
 
 pub inverse-at-spec : {M : Type 1} → statement M
 inverse-at-spec =
-    tie.close (tie.spec placed-at-requires aside-requires aside-requires-2 sub-t7 add-t8 returns)
+    tie.close (tie.spec placed-at-requires aside-requires aside-requires-2 sub-t9 add-t10 returns)

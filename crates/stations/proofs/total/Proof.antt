@@ -1,75 +1,72 @@
--- `stations::total` meets its contract: what is summed, with T of the elements that are left, is T.
+-- `stations::total` meets its contract: what is summed is T of the elements before.
 use Prim.Native.Nat.{ℕ, suc, _+_, _-_, _≤_}
 use mathlib.Core.List.{List}
-use mathlib.Core.Path.{_≡_, ap}
+use mathlib.Core.Path.{_≡_, refl, ap, _∙_}
 use native.Mathlib.Omega.{arith}
 use native.Mathlib.Numerals.{add-one}
-use borrow.Author.Needs.{needs}
-use lib.ListN.{length, getD, take, drop, drop-of-length-le}
-use lib.Seq.{length-take-le}
+use lib.ListN.{length, take}
+use lib.Seq.{take-length}
 use Rattle.model.specs.declared.Element.{Element}
-use Rattle.model.specs.Stations.{used, total, noElement}
-use Rattle.joins.proofs.JoinElements.{length-mapped}
-use Rattle.stations.proofs.StationTotal.{used-at, total-first, total-within}
+use Rattle.model.specs.Stations.{total}
+use Rattle.sources.specs.Sources.{elementsIn, elementsLent}
+use Rattle.sources.proofs.RecordsRead.{RecordsRead, read-asks, read-length, read-count}
+use Rattle.stations.proofs.StationTotal.{read-ends, read-total}
 use Rattle.stations.proofs.total.Statement.{statement}
 use Rattle.stations.proofs.total.Tie as tie
 
 abbrev Inv-loop : tie.InvT-loop
-Inv-loop els count i₀ t₀ i t = (i ≤ count) × (length (take count els) ≡ count) × (t + total (drop i (take count els)) ≡ total (take count els))
+Inv-loop crest amendment form count i₀ t₀ i t = RecordsRead form crest amendment count × (i ≤ count) × (t ≡ total (take i (elementsIn form crest amendment)))
 
 abbrev μ-loop : tie.MeasureT-loop
-μ-loop els count i₀ t₀ i t = count - i
+μ-loop crest amendment form count i₀ t₀ i t = count - i
 
-module _ (c : tie.In-loop Inv-loop μ-loop) where
-  abbrev us : List Element
-  us = take (c .before .before .before .args .a .count) (c .before .before .before .args .a .elements)
+abbrev es : tie.At-loop Inv-loop μ-loop → List Element
+es c = let a = c .before .before .before .before .args in elementsLent (a .form) (a .crest) (a .amendment)
 
-  turn : total (drop (c .before .loop .i) us) ≡ getD (c .before .before .before .args .a .elements) (c .before .loop .i) noElement .length + total (drop (suc (c .before .loop .i)) us)
-  turn =
-      let a = c .before .before .before .args .a in
-      total-first (used-at (a .elements) (a .count) (c .before .loop .i) noElement (c .loop-test .taken) (omega arith))
-
-  at-most : total us ≤ 30000000
-  unfolding used
-  at-most =
-      let r = c .before .before .before .pre in
-      omega (arith, total-within us (r .each), c .before .loop .inv .1, r .most)
+count-in-requires : tie.Need-count-in-requires Inv-loop μ-loop
+count-in-requires c κs = c .before .before .pre .readable
 
 loop-holds : tie.Need-loop-holds Inv-loop μ-loop
-loop-holds c =
-    let a = c .before .args .a in
-    let n : length (a .elements) ≡ 60 = search length-mapped depth 8 in
-    (omega arith, length-take-le (a .count) (a .elements) (omega (arith, c .before .pre .most)), omega arith)
+unfolding total
+loop-holds c = (record { source = c .before .before .before .pre; all = c .count-in .ensures }, omega arith, refl)
 
-mul-e : tie.Need-mul-e Inv-loop μ-loop
-mul-e c = search needs
+element-in-requires : tie.Need-element-in-requires Inv-loop μ-loop
+element-in-requires c κs = read-asks (c .before .loop .inv .0) (c .before .loop .i) (c .loop-test .taken)
 
-array-copy-out-e : tie.Need-array-copy-out-e Inv-loop μ-loop
-array-copy-out-e c = search needs
+-- the element of this turn ends where the next begins
+ends : (c : tie.After-struct-known Inv-loop μ-loop) →
+    let o = c .before .before .before in
+    let end = o .loop .t + c .before .element-in .result .length in
+    (end ≡ total (take (suc (o .loop .i)) (es o))) × (end ≤ 30000000)
+ends c =
+    let o = c .before .before in
+    let l = o .before .loop in
+    let e = read-ends (l .inv .0) (l .i) (o .loop-test .taken) in
+    let n = ap (λ (e : Element). e .length) (c .before .element-in .ensures) in
+    (omega (arith, e .0, n, l .inv .2), omega (arith, e .1, n, l .inv .2))
 
 add-t : tie.Need-add-t Inv-loop μ-loop
-add-t c = omega (arith, turn (c .before .before), at-most (c .before .before), c .before .before .before .loop .inv .2)
+add-t c = omega (arith, ends c .1)
 
 add-i : tie.Need-add-i Inv-loop μ-loop
-add-i c = search needs
+add-i c = let o = c .before .before in omega (arith, read-count (o .before .loop .inv .0), o .loop-test .taken)
 
 loop-less : tie.Need-loop-less Inv-loop μ-loop
-loop-less c = search needs
+loop-less c = omega arith
 
 loop-again : tie.Need-loop-again Inv-loop μ-loop
 loop-again c =
     let o = c .before .before in
     let l = o .before .loop in
-    (omega (arith, o .loop-test .taken), l .inv .1, omega (arith, turn o, l .inv .2, ap (λ (k : ℕ). total (drop k (us o))) (add-one (l .i))))
+    (l .inv .0, omega (arith, o .loop-test .taken), rw (add-one (l .i)) (ends c .0))
 
 returns : tie.Need-returns Inv-loop μ-loop
-unfolding used total
 returns c =
-    let l = c .before .loop in
-    let a = c .before .before .before .args .a in
-    let r = c .before .before .before .pre in
-    let e : l .t ≡ total (used a) = omega (arith, l .inv .2, ap total (drop-of-length-le (used a) {i = l .i} (omega arith))) in
-    (e, omega (arith, total-within (used a) (r .each), l .inv .1, r .most))
+    let o = c .before in
+    let l = o .loop in
+    let end : l .i ≡ length (es o) = omega (arith, l .inv .1, c .loop-test .left, read-length (l .inv .0)) in
+    let t : l .t ≡ total (es o) = l .inv .2 ∙ ap (λ (k : ℕ). total (take k (es o))) end ∙ ap total (take-length (es o)) in
+    (t, omega (arith, t, read-total (l .inv .0)))
 
 pub total-spec : {M : Type 1} → statement M
 total-spec =
@@ -77,9 +74,9 @@ total-spec =
     (tie.spec
     Inv-loop
     μ-loop
+    count-in-requires
     loop-holds
-    mul-e
-    array-copy-out-e
+    element-in-requires
     add-t
     add-i
     loop-less

@@ -1,148 +1,146 @@
--- `walk::passes::pass_over` meets its contract. The invariant: what is left of the pass, from what is seen, is the whole.
-use mathlib.Core.List.{List, _∷_}
-use mathlib.Core.Path.{_≡_, _∙_, ap}
-use Prim.Native.Nat.{ℕ, suc, _+_, _-_, _≤_, _<_}
+-- `walk::passes::pass_over` meets its contract. The invariant: what is left of the pass, from what is seen, is the whole, and the next element begins where those before it end.
+use mathlib.Core.List.{List}
+use mathlib.Core.Path.{_≡_, refl, sym, _∙_, ap}
+use Prim.Native.Nat.{suc, _+_, _-_, _^_, _≤_}
 use native.Mathlib.Omega.{arith}
-use borrow.Author.Needs.{needs}
-use lib.ListN.{length, getD, take, drop}
+use native.Mathlib.Numerals.{add-one}
+use lib.ListN.{length, take, drop, length-drop}
 use Rattle.model.specs.declared.Element.{Element}
 use Rattle.model.specs.Accepted.{Accepted}
-use Rattle.model.specs.Stations.{noElement, used, total}
+use Rattle.model.specs.Stations.{total}
 use Rattle.model.specs.Walk.{ownStations}
-use Rattle.walk.specs.Search.{onElement, passOn}
-use Rattle.joins.proofs.JoinElements.{length-mapped}
-use Rattle.stations.proofs.StationTotal.{total-within}
-use Rattle.walk.proofs.Arrays.{accepted-length, used-length, used-at, bounds-in}
+use Rattle.model.proofs.Accepted.{numbers}
 use Rattle.elements.proofs.Preparing.{prepared-element}
-use Rattle.walk_laws.proofs.Own.{own-between, total-at}
-use Rattle.walk.proofs.Passing.{Left, left-start, left-accepted, left-step, left-done}
+use Rattle.sources.specs.Sources.{elementsIn, elementsLent}
+use Rattle.sources.proofs.RecordsRead.{RecordsRead, elementIn, read-asks, read-at, read-length, read-count, read-accepted}
+use Rattle.stations.proofs.StationTotal.{read-ends}
+use Rattle.walk_laws.proofs.Own.{own-between}
+use Rattle.walk.specs.Search.{onElement, passOn}
+use Rattle.walk.proofs.Passing.{Left, own-is, left-start, left-step, left-done}
 use Rattle.walk.proofs.passes.pass_over.Statement.{statement}
 use Rattle.walk.proofs.passes.pass_over.Tie as tie
 
 abbrev Inv-loop : tie.InvT-loop
-Inv-loop pass q a b count i₀ v₀ i v = (i ≤ count) × (length (used a) ≡ count) × Left pass (used a) q v₀ i v
+Inv-loop pass crest amendment form q count i₀ start₀ v₀ i start v =
+    RecordsRead form crest amendment count × (i ≤ count) × (start ≡ total (take i (elementsIn form crest amendment))) × Left pass (elementsIn form crest amendment) q v₀ i v
 
 abbrev μ-loop : tie.MeasureT-loop
-μ-loop pass q a b count i₀ v₀ i v = count - i
+μ-loop pass crest amendment form q count i₀ start₀ v₀ i start v = count - i
 
--- the elements that are used, and the element of this turn, with those after it
-abbrev us : tie.In-loop Inv-loop μ-loop → List Element
-us c = used (c .before .before .args .t2)
+abbrev es : tie.Start Inv-loop μ-loop → List Element
+es s = elementsLent (s .args .form) (s .args .crest) (s .args .amendment)
 
-abbrev el : tie.In-loop Inv-loop μ-loop → Element
-el c = getD (c .before .before .args .t2 .elements) (c .before .loop .i) noElement
+-- the element of this turn, with those after it
+module _ (c : tie.In-loop Inv-loop μ-loop) where
+  abbrev begun : tie.Start Inv-loop μ-loop
+  begun = c .before .before .before .before .before
 
-abbrev rest : tie.In-loop Inv-loop μ-loop → List Element
-rest c = drop (suc (c .before .loop .i)) (us c)
+  abbrev el : Element
+  el = elementIn (begun .args .form) (begun .args .crest .now) (begun .args .amendment .now) (c .before .loop .i)
 
-abbrev first : tie.In-loop Inv-loop μ-loop → ℕ
-first c = total (take (c .before .loop .i) (us c))
+  abbrev rest : List Element
+  rest = drop (suc (c .before .loop .i)) (es begun)
 
-record Turn (c : tie.In-loop Inv-loop μ-loop) : Type 0 where
-  below : c .before .loop .i < length (us c)
-  split : drop (c .before .loop .i) (us c) ≡ el c ∷ rest c
-  accepted : Accepted (el c)
-  ends : first c + el c .length ≤ 30000000
-  start : getD (c .before .before .args .t3) (c .before .loop .i) 0 ≡ first c
-  next : getD (c .before .before .args .t3) (c .before .loop .i + 1) 0 ≡ first c + ownStations (el c) (rest c)
+  accepted : Accepted el
+  accepted = read-accepted (c .before .loop .inv .0) (c .before .loop .i) (c .loop-test .taken)
 
-turn : (c : tie.In-loop Inv-loop μ-loop) → Turn c
-turn c =
-    let s = c .before .before in
-    let a = s .args in
-    let l = c .before .loop in
-    let left = l .inv .2 in
-    let below : l .i < length (us c) = omega (arith, c .loop-test .taken, l .inv .1) in
-    let split = used-at (a .t2) (l .i) (c .loop-test .taken) (l .inv .1) in
-    let bounds = bounds-in (a .t2) (l .i) (el c) (rest c) below split in
-    record {
-      below = below;
-      split = split;
-      accepted = left-accepted (a .pass) (us c) (a .q) (a .w) (l .i) (l .v) (el c) left split;
-      ends = omega (arith, total-at (us c) (l .i) (el c) split, total-within (us c) (s .pre .0 .each), l .inv .1, s .pre .0 .most);
-      start = ap (λ (b : List ℕ). getD b (l .i) 0) (s .pre .1 .0) ∙ bounds .0;
-      next = ap (λ (b : List ℕ). getD b (l .i + 1) 0) (s .pre .1 .0) ∙ bounds .1;
-    }
+  -- where it ends
+  ends : (total (take (suc (c .before .loop .i)) (es begun)) ≡ c .before .loop .start + el .length) × (c .before .loop .start + el .length ≤ 30000000)
+  ends =
+      let l = c .before .loop in
+      let e = read-ends (l .inv .0) (l .i) (c .loop-test .taken) in
+      (omega (arith, e .0, l .inv .2), omega (arith, e .1, l .inv .2))
+
+  after : c .before .loop .i + 1 + length rest ≡ c .before .before .count-in .result
+  after = let l = c .before .loop in omega (arith, length-drop (suc (l .i)) (es begun), read-length (l .inv .0), c .loop-test .taken)
+
+count-in-requires : tie.Need-count-in-requires Inv-loop μ-loop
+count-in-requires c κs = c .before .before .pre .0 .readable
 
 loop-holds : tie.Need-loop-holds Inv-loop μ-loop
+unfolding total
 loop-holds c =
-    let a = c .args in
-    let n : length (a .t2 .elements) ≡ 60 = search length-mapped depth 8 in
-    (omega arith, used-length (a .t2) n (c .pre .0), left-start (a .pass) (used (a .t2)) (a .q) (a .w) (c .pre .0 .each))
+    let s = c .before .before .before in
+    let a = s .args in
+    (record { source = s .pre .0; all = c .count-in .ensures }, omega arith, refl, left-start (a .pass) (es s) (a .q) (a .w))
 
-mul-e : tie.Need-mul-e Inv-loop μ-loop
-mul-e c = search needs
-
-element-copy-out-e : tie.Need-element-copy-out-e Inv-loop μ-loop
-element-copy-out-e c = search needs
+element-in-requires : tie.Need-element-in-requires Inv-loop μ-loop
+element-in-requires c κs = read-asks (c .before .loop .inv .0) (c .before .loop .i) (c .loop-test .taken)
 
 prepare-requires : tie.Need-prepare-requires Inv-loop μ-loop
-prepare-requires c κs = turn (c .before) .accepted
+prepare-requires c κs = rw (c .element-in .ensures) (accepted (c .before))
 
-element-is : (c : tie.After-prepare Inv-loop μ-loop) → c .prepare .result .element ≡ el (c .before .before)
-element-is c = prepared-element (el (c .before .before)) (c .prepare .ensures .0)
+module _ (c : tie.After-prepare Inv-loop μ-loop) where
+  element-is : c .prepare .result .element ≡ el (c .before .before)
+  element-is = prepared-element (c .before .element-in .result) (c .prepare .ensures .0) ∙ c .before .element-in .ensures
 
-mul-start : tie.Need-mul-start Inv-loop μ-loop
-mul-start c = search needs
+  length-is : c .prepare .result .element .length ≡ el (c .before .before) .length
+  length-is = ap (λ (e : Element). e .length) element-is
 
-array-read-start : tie.Need-array-read-start Inv-loop μ-loop
-array-read-start c = omega (arith, c .before .before .before .before .pre .0 .most)
+add-own-of : tie.Need-add-own-of Inv-loop μ-loop
+add-own-of c = let o = c .before .before .before in omega (arith, read-count (o .before .loop .inv .0), o .loop-test .taken)
 
-add-own : tie.Need-add-own Inv-loop μ-loop
-add-own c = search needs
+own-of-requires : tie.Need-own-of-requires Inv-loop μ-loop
+own-of-requires c κs = omega (arith, length-is (c .before), numbers (accepted (c .before .before .before)) .longest)
 
-mul-own : tie.Need-mul-own Inv-loop μ-loop
-mul-own c = omega (arith, c .before .before .before .before .pre .0 .most)
-
-array-read-own : tie.Need-array-read-own Inv-loop μ-loop
-array-read-own c = omega (arith, c .before .before .before .before .pre .0 .most)
-
-sub-own : tie.Need-sub-own Inv-loop μ-loop
-sub-own c = let t = turn (c .before .before) in omega (arith, t .start, t .next)
+-- the element's own stations
+own : (c : tie.After-own-of Inv-loop μ-loop) → let o = c .before .before .before .before in c .own-of .result ≡ ownStations (el o) (rest o)
+own c =
+    let p = c .before .before in
+    let o = p .before .before in
+    rw (length-is p) at (c .own-of .ensures) ∙ sym (own-is (el o) (rest o) (o .before .loop .i) (o .before .before .count-in .result) (after o))
 
 pass-on-requires : tie.Need-pass-on-requires Inv-loop μ-loop
 pass-on-requires c κs =
-    let o = c .before .before in
+    let p = c .before .before in
+    let o = p .before .before in
     let l = o .before .loop in
-    let s = o .before .before in
-    let t = turn o in
-    let left = l .inv .2 in
-    let length-is = ap (λ (e : Element). e .length) (element-is c) in (
+    let s = begun o in
+    let end = ends o .1 in
+    let left = l .inv .3 in
+    let few : l .v .visits ≤ 2 ^ 60 = omega (arith, left .visits, s .pre .1 .1 .1, l .inv .2, end, read-count (l .inv .0) .1, o .loop-test .taken) in (
       record {
-        ready = c .prepare .ensures .1;
-        frame = s .pre .1 .1 .0;
-        short = omega (arith, t .start, t .next, own-between (el o) (rest o), length-is);
-        long = omega (arith, accepted-length (t .accepted), length-is);
-        early = omega (arith, t .start, t .ends);
-        best = omega (arith, left .best, s .pre .1 .1 .1 .0);
-        visits = omega (arith, left .visits, s .pre .1 .1 .1 .1, t .ends, t .below, l .inv .1, s .pre .0 .most);
+        ready = p .prepare .ensures .1;
+        frame = s .pre .1 .0;
+        short = omega (arith, own c, own-between (el o) (rest o), length-is p);
+        long = omega (arith, numbers (accepted o) .longest, length-is p);
+        early = omega (arith, end);
+        best = omega (arith, left .best, s .pre .1 .1 .0);
+        visits = omega (arith, few);
       },
-      omega (arith, left .visits, s .pre .1 .1 .1 .1, t .ends, t .below, l .inv .1, s .pre .0 .most),
+      few,
     )
 
 add-i : tie.Need-add-i Inv-loop μ-loop
-add-i c = search needs
+add-i c = let o = c .before .before .before .before .before in omega (arith, read-count (o .before .loop .inv .0), o .loop-test .taken)
+
+add-start : tie.Need-add-start Inv-loop μ-loop
+add-start c = let p = c .before .before .before in omega (arith, length-is p, ends (p .before .before) .1)
 
 loop-less : tie.Need-loop-less Inv-loop μ-loop
 loop-less c = omega arith
 
 loop-again : tie.Need-loop-again Inv-loop μ-loop
 loop-again c =
-    let p = c .before in
+    let p = c .before .before .before in
     let o = p .before .before in
     let l = o .before .loop in
-    let a = o .before .before .args in
-    let t = turn o in
-    let own : getD (a .t3) (l .i + 1) 0 - getD (a .t3) (l .i) 0 ≡ ownStations (el o) (rest o) = omega (arith, t .start, t .next) in
-    let seen : c .pass-on .result ≡ passOn (a .pass) (onElement (el o) (first o) (a .q)) (el o .length) (ownStations (el o) (rest o)) (first o) (l .v)
-    = rw (element-is p, own, t .start) at (c .pass-on .ensures) in
-    (omega (arith, t .below, l .inv .1), l .inv .1, left-step (a .pass) (us o) (a .q) (a .w) (l .i) (l .v) (el o) (l .inv .2) (t .split) (c .pass-on .result) seen)
+    let s = begun o in
+    let a = s .args in
+    let seen : c .pass-on .result ≡ passOn (a .pass) (onElement (el o) (total (take (l .i) (es s))) (a .q)) (el o .length) (ownStations (el o) (rest o)) (total (take (l .i) (es s))) (l .v)
+    = rw (l .inv .2, element-is p, own (c .before)) at (c .pass-on .ensures) in (
+      l .inv .0,
+      omega (arith, o .loop-test .taken),
+      rw (add-one (l .i)) (omega (arith, ends o .0, length-is p)),
+      left-step (a .pass) (es s) (a .q) (a .w) (l .i) (l .v) (el o) (l .inv .3) (read-at (l .inv .0) (l .i) (o .loop-test .taken)) (c .pass-on .result) seen,
+    )
 
 returns : tie.Need-returns Inv-loop μ-loop
 returns c =
-    let a = c .before .before .args in
+    let s = c .before .before .before .before .before in
+    let a = s .args in
     let l = c .before .loop in
-    left-done (a .pass) (used (a .t2)) (a .q) (a .w) (l .i) (l .v) (l .inv .2) (omega (arith, c .loop-test .left, l .inv .1))
+    left-done (a .pass) (es s) (a .q) (a .w) (l .i) (l .v) (l .inv .3) (omega (arith, c .loop-test .left, read-length (l .inv .0)))
 
 pub pass-over-spec : {M : Type 1} → statement M
 pass-over-spec =
@@ -150,18 +148,15 @@ pass-over-spec =
     (tie.spec
     Inv-loop
     μ-loop
+    count-in-requires
     loop-holds
-    mul-e
-    element-copy-out-e
+    element-in-requires
     prepare-requires
-    mul-start
-    array-read-start
-    add-own
-    mul-own
-    array-read-own
-    sub-own
+    add-own-of
+    own-of-requires
     pass-on-requires
     add-i
+    add-start
     loop-less
     loop-again
     returns)

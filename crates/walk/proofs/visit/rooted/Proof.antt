@@ -6,12 +6,12 @@ use native.Mathlib.Nat.{mul-le-mul}
 use borrow.Author.Needs.{needs}
 use Rattle.integers.specs.Root.{root}
 use Rattle.integers.proofs.Root.{square→root-<}
-use Rattle.walk.specs.Search.{Known}
+use Rattle.walk.specs.Search.{unreached, Known}
 use Rattle.walk.proofs.visit.rooted.Statement.{statement}
 use Rattle.walk.proofs.visit.rooted.Tie as tie
 
--- the root of a best up to 2^62
-small : {b r : ℕ} → b ≤ 2 ^ 62 → r ≡ root b → r + 31 ≤ 2 ^ 31 + 31
+-- the root of a best
+small : {b r : ℕ} → b ≤ unreached → r ≡ root b → r + 31 ≤ 2 ^ 31 + 31
 small {b} h e = let k : root b < 2 ^ 31 + 1 = square→root-< (omega arith) in omega arith
 
 returns : tie.Need-returns

@@ -1,23 +1,24 @@
--- Every refusal of these calls is one of the table's eighteen, and its place is at most 60: a file has at most 4 blocks and 60 records, and so have a writer's bytes.
-use Prim.Native.Nat.{ℕ, zero, suc, _+_, _-_, _*_, _/_, _%_, _≤_, _<_}
+-- Every refusal of these calls is one of the table's, and its place is a block or a record, at most 60: so what a call returns is small, and both can be read back.
+use Prim.Native.Nat.{ℕ, _*_, _/_, _%_}
 use native.Mathlib.Omega.{arith}
-use mathlib.Core.Bool.{Bool, true, false}
+use mathlib.Core.Bool.{Bool}
 use mathlib.Core.List.{List, [], _∷_, _++_}
-use mathlib.Core.Path.{_≡_, refl}
+use mathlib.Core.Path.{_≡_, refl, ap}
 use lib.Dec.{leb}
 use lib.ListN.{length}
-use Rattle.model.specs.declared.Element.{Element}
+use Rattle.model.specs.declared.Refusal.{Refusal}
 use Rattle.model.specs.declared.Outcome.{Outcome}
 use Rattle.model.specs.declared.Outcome.the-variants.{Done, Refused}
-use Rattle.model.specs.Refusals.{Reason, byteCount, recordCount, wrongRoom, Rule, rule₀, refusal, orRefused, verdict, forEach}
-use Rattle.model.specs.Records.{blockSize, recordBytes, blockCount, countOf, recordOf}
-use Rattle.model.specs.Acceptance.{elementAt, lengthFits, recordRules, joinRules, recordsRules, sumRules, fieldRules, blocksRules, crestRules, checked}
+use Rattle.model.specs.Refusals.{Reason, recordCount, wrongRoom, number, refusal, Rule, rule₀, verdict}
+use Rattle.model.specs.Records.{blockSize}
+use Rattle.model.specs.Acceptance.{recordsRules}
+use Rattle.model.specs.Crest.{Crest, SoundCrest, checkOf}
 use Rattle.model.specs.Answers.{PaperAnswer, paperOfOutcome, code}
 use Rattle.model.specs.Writer.{countFits, blocksNeeded, writerRules, writerOutcome}
-use Rattle.model.proofs.Verdict.{reason-numbered, verdict-after, refused-before, done→all}
+use Rattle.model.proofs.Verdict.{reason-numbered, done→all, refused→first}
 use Rattle.crestfile.proofs.ForEach.{holds-one}
-use Rattle.crestfile.proofs.Crest.{count-fits, fits→sized}
-use Rattle.crestfile.proofs.Count.{blocks→counted}
+use Rattle.crestfile.proofs.Crest.{count-fits}
+use Rattle.crestfile.proofs.Placed.{PlacedOrder, none-placed, rule-placed, then-placed, records-placed}
 use Rattle.codes.specs.Codes.{Small}
 
 -- ---- orders of refusals
@@ -26,94 +27,41 @@ use Rattle.codes.specs.Codes.{Small}
 abbrev pub SmallOrder : List Rule → Type 0
 SmallOrder rs = Small (paperOfOutcome (verdict rs))
 
-pub none-small : SmallOrder []
-unfolding verdict paperOfOutcome
-none-small = record { number = omega arith; place = omega arith }
-
-pub one-small : (why : Reason) (place : ℕ) (b : Bool) → place ≤ 60 → SmallOrder (record { why = why; place = place; holds = b } ∷ [])
-unfolding verdict orRefused refusal paperOfOutcome
-one-small why place true h = record { number = omega arith; place = omega arith }
-one-small why place false h = record { number = reason-numbered why .1; place = h }
+-- an order whose places are at most 60: its numbers are the table's
+pub order-small : (rs : List Rule) → PlacedOrder rs → SmallOrder rs
+unfolding paperOfOutcome refusal
+order-small rs placed = go (verdict rs) refl
+  where
+    go : (o : Outcome) → verdict rs ≡ o → Small (paperOfOutcome o)
+    go Done e = record { number = omega arith; place = omega arith }
+    go (Refused why) e =
+        let c = refused→first rs why e in
+        let n : why .number ≡ number (c .rule .why) = ap (λ (w : Refusal). w .number) (c .gives) in
+        record { number = omega (arith, reason-numbered (c .rule .why)); place = placed why e }
 
 -- one part of an order after another
-pub then-small : (rs ss : List Rule) → SmallOrder rs → (verdict rs ≡ Done → SmallOrder ss) → SmallOrder (rs ++ ss)
-then-small rs ss p q = go (verdict rs) refl
-  where
-    go : (o : Outcome) → verdict rs ≡ o → SmallOrder (rs ++ ss)
-    go Done e = rw (verdict-after rs ss e) (q e)
-    go (Refused x) e = rw (refused-before rs ss e) (rw e at p)
+pub after-small : (before rs : List Rule) → PlacedOrder before → PlacedOrder rs → SmallOrder (before ++ rs)
+after-small before rs p q = order-small (before ++ rs) (then-placed before rs p (λ d. q))
 
--- a rule before others
-pub rule-small : (r : Rule) (rs : List Rule) → r .place ≤ 60 → (verdict (r ∷ []) ≡ Done → SmallOrder rs) → SmallOrder (r ∷ rs)
-rule-small r rs h q = then-small (r ∷ []) rs (one-small (r .why) (r .place) (r .holds) h) q
+-- a rule without a place, before others
+pub unplaced : (why : Reason) (b : Bool) (rs : List Rule) → PlacedOrder rs → PlacedOrder (rule₀ why b ∷ rs)
+unplaced why b rs k = rule-placed (rule₀ why b) rs (omega arith) (λ d. k)
 
-each-small : (f : ℕ → List Rule) (n i : ℕ) → ((j : ℕ) → j < i + n → SmallOrder (f j)) → SmallOrder (forEach f n i)
-unfolding forEach
-each-small f zero i p = none-small
-each-small f (suc n) i p = then-small (f i) (forEach f n (i + 1)) (p i (omega arith)) (λ d. each-small f n (i + 1) (λ j h. p j (omega arith)))
+-- ---- the check and the writer
 
--- ---- a file
-
-module _ (file : List ℕ) where
-  sums-small : (b : ℕ) → b ≤ 60 → SmallOrder (sumRules file b)
-  unfolding sumRules
-  sums-small b h = rule-small _ [] h (λ d. none-small)
-
-  fields-small : (b : ℕ) → b ≤ 60 → SmallOrder (fieldRules file b)
-  unfolding fieldRules
-  fields-small b h = rule-small _ [] h (λ d. none-small)
-
-  few-blocks : verdict (rule₀ byteCount (lengthFits (length file)) ∷ []) ≡ Done → blockCount file ≤ 4
-  few-blocks d = fits→sized (length file) (holds-one (done→all _ d)) .atMost
-
-  blocks-small : SmallOrder (blocksRules file)
-  unfolding blocksRules
-  blocks-small =
-      let n = blockCount file in
-      rule-small _ (forEach (sumRules file) n 0 ++ forEach (fieldRules file) n 0) (omega arith)
-      (λ d.
-      let few = few-blocks d in
-      then-small (forEach (sumRules file) n 0) (forEach (fieldRules file) n 0) (each-small (sumRules file) n 0 (λ b h. sums-small b (omega arith)))
-      (λ e. each-small (fieldRules file) n 0 (λ b h. fields-small b (omega arith))))
-
-record-small : (this : List ℕ) (r : ℕ) → r ≤ 60 → SmallOrder (recordRules this r)
-unfolding recordRules
-record-small this r h =
-    rule-small _ _ h (λ a. rule-small _ _ h (λ b. rule-small _ _ h (λ c. rule-small _ _ h (λ d. rule-small _ [] h (λ e. none-small)))))
-
-join-small : (e f : Element) (r : ℕ) → r ≤ 60 → SmallOrder (joinRules e f r)
-unfolding joinRules
-join-small e f r h = rule-small _ _ h (λ a. rule-small _ [] h (λ b. none-small))
-
-pub records-small : (bytes : List ℕ) → countOf bytes ≤ 60 → SmallOrder (recordsRules bytes)
-unfolding recordsRules
-records-small bytes few =
-    let records : ℕ → List Rule = λ r. recordRules (recordOf bytes r) r in
-    let joins : ℕ → List Rule = λ r. joinRules (elementAt bytes r) (elementAt bytes (r + 1)) r in
-    let n = countOf bytes in
-    then-small (forEach records n 0) (forEach joins (n - 1) 0) (each-small records n 0 (λ r h. record-small (recordOf bytes r) r (omega arith)))
-    (λ d. each-small joins (n - 1) 0 (λ r h. join-small (elementAt bytes r) (elementAt bytes (r + 1)) r (omega arith)))
-
-pub crest-small : (file : List ℕ) → SmallOrder (crestRules file)
-unfolding crestRules
-crest-small file =
-    then-small (blocksRules file) (recordsRules (recordBytes file)) (blocks-small file) (λ d. records-small (recordBytes file) (blocks→counted file d .few))
-
-pub check-small : (file : List ℕ) → Small (paperOfOutcome (checked file))
-unfolding checked
-check-small file = crest-small file
-
--- ---- the writer
+pub check-small : (c : Crest) → SoundCrest c → Small (paperOfOutcome (checkOf c))
+check-small c sound = order-small (c .rules) (sound .places)
 
 pub writer-small : (records : List ℕ) (room : ℕ) → Small (paperOfOutcome (writerOutcome records room))
 unfolding writerOutcome writerRules
 writer-small records room =
     let fits = leb (blockSize * blocksNeeded records) room in
     let roomy = rule₀ wrongRoom fits ∷ [] in
-    rule-small (rule₀ recordCount (countFits (length records))) (recordsRules records ++ roomy) (omega arith)
+    order-small (writerRules records room)
+    (rule-placed (rule₀ recordCount (countFits (length records))) (recordsRules records ++ roomy) (omega arith)
     (λ d.
     let few = count-fits (length records) .0 (holds-one (done→all _ d)) .1 in
-    then-small (recordsRules records) roomy (records-small records few) (λ e. one-small wrongRoom 0 fits (omega arith)))
+    then-placed (recordsRules records) roomy (records-placed records few) (λ e. unplaced wrongRoom fits [] none-placed)))
 
 -- ---- what is returned
 

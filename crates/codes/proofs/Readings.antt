@@ -1,6 +1,5 @@
--- A reading's refusal is small: the crest's own, or one without a place.
-use native.Mathlib.Omega.{arith}
-use mathlib.Core.List.{List, [], _++_}
+-- A question's refusal is small: it is that of the rules before it, whose places are small, or one without a place. So a reading's is, on a crest of any source.
+use mathlib.Core.List.{List, _++_}
 use Prim.Native.Nat.{ℕ}
 use lib.IntN.{ℤ}
 use lib.Ieee.{Float}
@@ -10,53 +9,58 @@ use Rattle.model.specs.declared.Outcome.{Outcome}
 use Rattle.model.specs.declared.Outcome.the-variants.{Done, Refused}
 use Rattle.model.specs.declared.Reading.{Reading}
 use Rattle.model.specs.declared.Reading.the-variants.{PlanePoint, LinePlace}
-use Rattle.model.specs.Refusals.{Rule, verdict}
-use Rattle.model.specs.Acceptance.{crestRules, crestElements}
+use Rattle.model.specs.Refusals.{Rule}
+use Rattle.model.specs.Crest.{Crest, SoundCrest}
 use Rattle.model.specs.Judged.{judged}
-use Rattle.model.specs.Answers.{paperOfOutcome, pointRules, locatedIf, locatedAfter, lineRules, inverseIf, inverseAfter}
+use Rattle.model.specs.Answers.{paperOfOutcome, stationRules, pointRules, locatedIf, locatedAfter, lineRules, inverseIf, inverseAfter}
 use Rattle.model.specs.Readings.{wholeOf, valueOf, numberRules, fromLocated, fromInverse, answerAfter, answerTo, paperOfReading}
+use Rattle.crestfile.proofs.Placed.{PlacedOrder, none-placed, then-placed}
 use Rattle.codes.specs.Codes.{Small}
-use Rattle.codes.proofs.Codes.{SmallOrder, none-small, rule-small, then-small, crest-small}
+use Rattle.codes.proofs.Codes.{SmallOrder, after-small, unplaced}
 
-numbers-small : (a b : Float) → SmallOrder (numberRules a b)
-unfolding numberRules
-numbers-small a b = rule-small _ [] (omega arith) (λ d. none-small)
+-- ---- the questions, after the rules that come before theirs
 
-pub point-small : (es : List Element) (p : Point) (s : ℕ) → SmallOrder (pointRules es p s)
-unfolding pointRules
-point-small es p s =
-    rule-small _ _ (omega arith) (λ a. rule-small _ _ (omega arith) (λ b. rule-small _ _ (omega arith) (λ c. rule-small _ [] (omega arith) (λ d. none-small))))
+module _ (before : List Rule) (placed : PlacedOrder before) (es : List Element) where
+  pub station-small : (s : ℤ) → SmallOrder (before ++ stationRules es s)
+  unfolding stationRules
+  station-small s = after-small before (stationRules es s) placed (unplaced _ _ _ none-placed)
 
-pub line-small : (es : List Element) (s w : ℤ) → SmallOrder (lineRules es s w)
-unfolding lineRules
-line-small es s w = rule-small _ _ (omega arith) (λ a. rule-small _ [] (omega arith) (λ b. none-small))
+  pub point-small : (p : Point) (s : ℕ) → SmallOrder (before ++ pointRules es p s)
+  unfolding pointRules
+  point-small p s =
+      after-small before (pointRules es p s) placed (unplaced _ _ _ (unplaced _ _ _ (unplaced _ _ _ (unplaced _ _ _ none-placed))))
 
--- the crest's rules, that both numbers are whole, and the question's own rules
-reading-small : (file : List ℕ) (a b : Float) (own : List Rule) → SmallOrder own → SmallOrder ((crestRules file ++ numberRules a b) ++ own)
-reading-small file a b own k =
-    then-small (crestRules file ++ numberRules a b) own (then-small (crestRules file) (numberRules a b) (crest-small file) (λ d. numbers-small a b)) (λ d. k)
+  pub line-small : (s w : ℤ) → SmallOrder (before ++ lineRules es s w)
+  unfolding lineRules
+  line-small s w = after-small before (lineRules es s w) placed (unplaced _ _ _ (unplaced _ _ _ none-placed))
 
-point-answer-small : (o : Outcome) (es : List Element) (p : Point) (s : ℕ) → Small (paperOfOutcome o) → Small (paperOfReading (fromLocated (locatedIf o es p s)))
+-- ---- a reading
+
+point-answer-small : (o : Outcome) (es : List Element) (p : Point) (s : ℕ) → Small (paperOfOutcome o) → Small (paperOfReading 0 (fromLocated (locatedIf o es p s)))
 unfolding paperOfOutcome paperOfReading fromLocated locatedIf
 point-answer-small Done es p s k = record { number = k .number; place = k .place }
-point-answer-small (Refused why) es p s k = record { number = k .number; place = k .place }
+point-answer-small (Refused why) es p s k = k
 
-line-answer-small : (o : Outcome) (es : List Element) (s w : ℤ) → Small (paperOfOutcome o) → Small (paperOfReading (fromInverse (inverseIf o es s w)))
+line-answer-small : (o : Outcome) (es : List Element) (s w : ℤ) → Small (paperOfOutcome o) → Small (paperOfReading 0 (fromInverse (inverseIf o es s w)))
 unfolding paperOfOutcome paperOfReading fromInverse inverseIf
 line-answer-small Done es s w k = record { number = k .number; place = k .place }
-line-answer-small (Refused why) es s w k = record { number = k .number; place = k .place }
+line-answer-small (Refused why) es s w k = k
 
-pub answer-small : (file : List ℕ) (r : Reading) → Small (paperOfReading (answerTo file r))
-unfolding answerTo answerAfter locatedAfter inverseAfter
-answer-small file (PlanePoint x y) =
-    let es = crestElements file in
-    let p : Point = record { x = valueOf (wholeOf x); y = valueOf (wholeOf y) } in
-    let s = judged es p in
-    let rules = pointRules es p s in
-    point-answer-small (verdict ((crestRules file ++ numberRules x y) ++ rules)) es p s (reading-small file x y rules (point-small es p s))
-answer-small file (LinePlace station offset) =
-    let es = crestElements file in
-    let s = valueOf (wholeOf station) in
-    let w = valueOf (wholeOf offset) in
-    let rules = lineRules es s w in
-    line-answer-small (verdict ((crestRules file ++ numberRules station offset) ++ rules)) es s w (reading-small file station offset rules (line-small es s w))
+module _ (c : Crest) (sound : SoundCrest c) where
+  -- the crest's rules, and that both numbers are whole
+  before-placed : (a b : Float) → PlacedOrder (c .rules ++ numberRules a b)
+  unfolding numberRules
+  before-placed a b = then-placed (c .rules) (numberRules a b) (sound .places) (λ d. unplaced _ _ _ none-placed)
+
+  pub answer-small : (r : Reading) → Small (paperOfReading 0 (answerTo c r))
+  unfolding answerTo answerAfter locatedAfter inverseAfter
+  answer-small (PlanePoint x y) =
+      let es = c .elements in
+      let p : Point = record { x = valueOf (wholeOf x); y = valueOf (wholeOf y) } in
+      let s = judged es p in
+      point-answer-small _ es p s (point-small (c .rules ++ numberRules x y) (before-placed x y) es p s)
+  answer-small (LinePlace station offset) =
+      let es = c .elements in
+      let s = valueOf (wholeOf station) in
+      let w = valueOf (wholeOf offset) in
+      line-answer-small _ es s w (line-small (c .rules ++ numberRules station offset) (before-placed station offset) es s w)

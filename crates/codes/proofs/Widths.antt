@@ -8,8 +8,7 @@ use mir.Val.{SFits, toZ, ofZ}
 use mir.Facts.{sfits-widen}
 use mir.ValLaws.{toZ-ofZ}
 use Rattle.model.specs.declared.Point.{Point}
-use Rattle.model.specs.Records.{put}
-use Rattle.model.specs.Run.{i32Bytes}
+use Rattle.model.specs.Records.{put, i32Bytes}
 use Rattle.readings.proofs.Narrow.{narrow}
 
 module _ (z : ℤ) (fits : SFits w32 z) where

@@ -7,14 +7,14 @@ use mir.Syntax.{w32}
 use mir.Val.{SFits}
 use Rattle.model.specs.declared.Move.{Move}
 use Rattle.model.specs.declared.Move.the-variants.{By}
-use Rattle.model.specs.Records.{put}
+use Rattle.model.specs.Records.{mostRecords, put, i32Bytes}
+use Rattle.model.specs.Refusals.{lastNumber}
 use Rattle.model.specs.Answers.{PaperAnswer, paperOfMove}
-use Rattle.model.specs.Run.{i32Bytes}
 
--- an answer or a refusal whose number is one of the table's, and whose place is a block or a record of a file
+-- an answer or a refusal whose number is one of the table's, and whose place is a block or a record of a crest
 pub record Small (p : PaperAnswer) : Type 0 where
-  pub number : p .number ≤ 18
-  pub place : p .place ≤ 60
+  pub number : p .number ≤ lastNumber
+  pub place : p .place ≤ mostRecords
 
 -- a move whose two values are numbers of 32 bits, or a small refusal
 pub record Movable (m : Move) : Type 0 where

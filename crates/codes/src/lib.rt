@@ -5,27 +5,20 @@ use model::Point;
 use model::ReadingAnswer;
 use model::Refusal;
 use model::refusals;
-use readings::run::count;
-use readings::run::latest_of;
-use run_bytes::put_run;
-use run_bytes::run_at;
 ghost use mathlib.Core.Path.{_≡_};
-ghost use mathlib.Core.Bool.{false};
-ghost use mathlib.Core.List.{[]};
 ghost use Prim.Native.Nat.{_+_, _≤_};
 ghost use lib.ListN.{length};
 ghost use mir.Syntax.{w32};
 ghost use mir.Val.{SFits};
 ghost use Rattle.model.specs.Answers.{code, refusedWith, paperOfOutcome, paperOfMove};
 ghost use Rattle.model.specs.Readings.{paperOfReading};
-ghost use Rattle.model.specs.Run.{isFull, counted, shownOf, runAt, runBytes, moveBytes};
-ghost use Rattle.readings.specs.Stored.{Storable};
+ghost use Rattle.model.specs.Calls.{moveSize, moveBytes};
 ghost use Rattle.codes.specs.Codes.{Small, Movable, putTwo};
 
 // A refusal's number plus 256 times its place.
 pub fn code_of(why: Refusal) -> u32
-    requires { ⌜ Small (refusedWith why []) ⌝ }
-    ensures { λ r. ⌜ r ≡ code (refusedWith why []) ⌝ }
+    requires { ⌜ Small (refusedWith why 0) ⌝ }
+    ensures { λ r. ⌜ r ≡ code (refusedWith why 0) ⌝ }
 {
     why.number + refusals::PLACE_UNIT * why.place
 }
@@ -43,8 +36,8 @@ pub fn outcome_code(outcome: Outcome) -> u32
 
 // 0 for an answer of either sort.
 pub fn answer_code(answer: ReadingAnswer) -> u32
-    requires { ⌜ Small (paperOfReading answer) ⌝ }
-    ensures { λ r. ⌜ r ≡ code (paperOfReading answer) ⌝ }
+    requires { ⌜ Small (paperOfReading 0 answer) ⌝ }
+    ensures { λ r. ⌜ r ≡ code (paperOfReading 0 answer) ⌝ }
 {
     match answer {
         ReadingAnswer::PlanePoint {
@@ -80,7 +73,7 @@ pub fn put_two(room: &mut [u8], at: usize, a: i64, b: i64)
 
 // A move into its 8 bytes, forward and left; a refusal leaves them as they came.
 pub fn answer_move(answer: Move, room: &mut [u8]) -> u32
-    requires { ⌜ length (now room) ≡ 8 ⌝ }
+    requires { ⌜ length (now room) ≡ moveSize ⌝ }
     requires { ⌜ Movable answer ⌝ }
     ensures { λ r. ⌜ r ≡ code (paperOfMove answer) ⌝ }
     ensures { λ _. ⌜ now (room .exit) ≡ moveBytes answer (now (room .entry)) ⌝ }
@@ -92,19 +85,4 @@ pub fn answer_move(answer: Move, room: &mut [u8]) -> u32
         }
         Move::Refused(why) => code_of(why),
     }
-}
-
-// A reading on a run that is not full, by what it came to.
-pub fn count_reading(answer: ReadingAnswer, run: &mut [u8]) -> u32
-    requires { ⌜ length (now run) ≡ 24 ⌝ }
-    requires { ⌜ isFull (runAt (now run)) ≡ false ⌝ }
-    requires { ⌜ Storable (shownOf answer) ⌝ }
-    requires { ⌜ Small (paperOfReading answer) ⌝ }
-    ensures { λ r. ⌜ r ≡ code (paperOfReading answer) ⌝ }
-    ensures { λ _. ⌜ now (run .exit) ≡ runBytes (counted (shownOf answer) (runAt (now (run .entry)))) (now (run .entry)) ⌝ }
-{
-    let state = run_at(run);
-    let grown = count(state, latest_of(answer));
-    put_run(run, grown);
-    answer_code(answer)
 }

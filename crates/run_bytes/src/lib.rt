@@ -14,7 +14,7 @@ pub fn run_at(bytes: &[u8]) -> Run
     let refused = fields::u16_at(bytes, layout::REFUSED_AT);
     let latest = fields::u16_at(bytes, layout::LATEST_AT);
     let first = fields::u16_at(bytes, layout::FIRST_AT);
-    let reading = fields::u16_at(bytes, layout::READING_AT);
+    let reading = fields::u16_at(bytes, layout::FIRST_READING_AT);
     let one = fields::i32_at(bytes, layout::ONE_AT);
     let two = fields::i32_at(bytes, layout::TWO_AT);
     let three = fields::i32_at(bytes, layout::THREE_AT);
@@ -39,7 +39,7 @@ pub fn put_run(bytes: &mut [u8], run: Run)
     fields::put_u16(bytes, layout::REFUSED_AT, run.refused);
     fields::put_u16(bytes, layout::LATEST_AT, run.latest);
     fields::put_u16(bytes, layout::FIRST_AT, run.first);
-    fields::put_u16(bytes, layout::READING_AT, run.reading);
+    fields::put_u16(bytes, layout::FIRST_READING_AT, run.reading);
     fields::put_i32(bytes, layout::ONE_AT, run.one);
     fields::put_i32(bytes, layout::TWO_AT, run.two);
     fields::put_i32(bytes, layout::THREE_AT, run.three);

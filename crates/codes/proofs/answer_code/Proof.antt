@@ -20,20 +20,20 @@ enum-known-answer c = search needs
 code-of-requires : tie.Need-code-of-requires
 unfolding paperOfReading
 code-of-requires c κs =
-    let k = subst (λ (a : ReadingAnswer). Small (paperOfReading a)) (c .before .answer .given .1) (c .before .before .before .pre) in
+    let k = subst (λ (a : ReadingAnswer). Small (paperOfReading 0 a)) (c .before .answer .given .1) (c .before .before .before .pre) in
     record { number = k .number; place = k .place }
 
 returns : tie.Need-returns
 unfolding code paperOfReading
-returns c = sym (ap (λ (a : ReadingAnswer). code (paperOfReading a)) (c .enum-told .given .1))
+returns c = sym (ap (λ (a : ReadingAnswer). code (paperOfReading 0 a)) (c .enum-told .given .1))
 
 returns-2 : tie.Need-returns-2
 unfolding code paperOfReading
-returns-2 c = sym (ap (λ (a : ReadingAnswer). code (paperOfReading a)) (c .enum-told2 .given .1))
+returns-2 c = sym (ap (λ (a : ReadingAnswer). code (paperOfReading 0 a)) (c .enum-told2 .given .1))
 
 returns-3 : tie.Need-returns-3
 unfolding code paperOfReading
-returns-3 c = c .code-of .ensures ∙ sym (ap (λ (a : ReadingAnswer). code (paperOfReading a)) (c .before .before .answer .given .1))
+returns-3 c = c .code-of .ensures ∙ sym (ap (λ (a : ReadingAnswer). code (paperOfReading 0 a)) (c .before .before .answer .given .1))
 
 pub answer-code-spec : {M : Type 1} → statement M
 answer-code-spec =

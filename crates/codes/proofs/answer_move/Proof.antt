@@ -8,7 +8,7 @@ use denote.Ref.{now}
 use Rattle.model.specs.declared.Move.{Move}
 use Rattle.model.specs.Records.{putAll}
 use Rattle.model.specs.Answers.{code, paperOfMove}
-use Rattle.model.specs.Run.{moveBytes}
+use Rattle.model.specs.Calls.{moveBytes}
 use Rattle.readings.proofs.Narrow.{narrow-fits}
 use Rattle.codes.specs.Codes.{Movable, putTwo}
 use borrow.Author.Needs.{needs}

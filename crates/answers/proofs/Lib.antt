@@ -1,7 +1,4 @@
--- The laws that belong to no one function.
+-- A reading's numbers, and that what it comes to fits the run record.
 pub mod Outside
-pub mod Short
 pub mod Numbers
-pub mod Crest
 pub mod Storable
-pub mod Noting

@@ -1,7 +1,7 @@
 -- The stake-out call: 18 for room of another size, then what the stake-out gives, which its 8 bytes hold.
 use Prim.Native.Nat.{ℕ}
 use native.Mathlib.Omega.{arith}
-use mathlib.Core.List.{List, []}
+use mathlib.Core.List.{List}
 use mathlib.Core.Path.{_≡_}
 use lib.IntN.{ℤ}
 use lib.ListN.{length}
@@ -12,10 +12,11 @@ use Rattle.model.specs.declared.Outcome.{Outcome}
 use Rattle.model.specs.declared.Outcome.the-variants.{Done, Refused}
 use Rattle.model.specs.Refusals.{refusal, orRefused, verdict}
 use Rattle.model.specs.Answers.{code, paperOfOutcome, paperOfMove, moveRules, moveOf, moveIf, stakeOut}
-use Rattle.model.specs.Run.{moveBytes, stakeOutCall}
+use Rattle.model.specs.Calls.{moveBytes, stakeOutCall}
+use Rattle.crestfile.proofs.Placed.{none-placed}
 use Rattle.stakes.proofs.StakeAnswers.{move-small}
 use Rattle.codes.specs.Codes.{Small, Movable}
-use Rattle.codes.proofs.Codes.{SmallOrder, none-small, rule-small}
+use Rattle.codes.proofs.Codes.{SmallOrder, order-small, unplaced}
 
 module _ (own target : Point) (c s : ℤ) where
   pub stake-18 : (room : List ℕ) → (length room ≡ 8 → ⊥) → stakeOutCall own target c s room ≡ (18, room)
@@ -28,7 +29,7 @@ module _ (own target : Point) (c s : ℤ) where
 
   rules-small : SmallOrder (moveRules own target c s)
   unfolding moveRules
-  rules-small = rule-small _ _ (omega arith) (λ a. rule-small _ _ (omega arith) (λ b. rule-small _ [] (omega arith) (λ d. none-small)))
+  rules-small = order-small _ (unplaced _ _ _ (unplaced _ _ _ (unplaced _ _ _ none-placed)))
 
   if-small : (o : Outcome) → Small (paperOfOutcome o) → Small (paperOfMove (moveIf o own target c s))
   unfolding moveIf moveOf paperOfOutcome paperOfMove

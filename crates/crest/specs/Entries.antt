@@ -1,15 +1,13 @@
 -- A reading on a run, for a caller in Rattle: what it came to, with the display pair, and the run afterwards.
-use Prim.Native.Nat.{ℕ}
-use mathlib.Core.List.{List}
-use Rattle.model.specs.declared.Reading.{Reading}
+use Rattle.model.specs.declared.ReadingAnswer.{ReadingAnswer}
 use Rattle.model.specs.declared.Run.{Run}
 use Rattle.model.specs.Readings.{displayOf}
 use Rattle.model.specs.Run.{noted}
 use Rattle.crest.specs.declared.entries.NotedReading.{NotedReading}
 
 -- "It goes with a plane point's answer; else both are 0.0.": of what the reading came to on the run, 16 too
-unfoldable pub notedReading : List ℕ → Reading → Run → NotedReading
+unfoldable pub notedReading : ReadingAnswer → Run → NotedReading
 unfolding noted displayOf
-notedReading file r run =
-    let n = noted file r run in
+notedReading a run =
+    let n = noted a run in
     record { answer = n .answer; display = displayOf (n .answer); run = n .run }

@@ -1,2 +1,2 @@
--- What the contracts of this crate cite.
+-- For the entries of this crate: the record in which a reading on a run is handed back.
 pub mod Entries

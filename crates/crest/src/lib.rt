@@ -1,27 +1,30 @@
 // The calls of the logger's C firmware: numbers and lent bytes.
+use codes::answer_code;
 use codes::answer_move;
-use codes::count_reading;
 use codes::outcome_code;
 use codes::point;
 use model::Reading;
 use model::layout;
 use model::refusals;
 use readings::run::acknowledge;
+use readings::run::count_answer;
 use readings::run::is_full;
 use run_bytes::put_run;
 use run_bytes::run_at;
 ghost use mathlib.Core.Path.{_≡_};
 ghost use Rattle.model.specs.declared.Reading.the-variants.{PlanePoint, LinePlace};
-ghost use Rattle.model.specs.Run.{readingCall, acknowledgeCall, checkCall, writeCall, stakeOutCall};
+ghost use Rattle.model.specs.Crest.{fileCrest};
+ghost use Rattle.model.specs.Readings.{answerTo};
+ghost use Rattle.model.specs.Calls.{readingCall, acknowledgeCall, checkCall, writeCall, stakeOutCall};
 
 pub mod entries;
 
 // The check of a file.
 #[no_mangle]
 pub extern "C" fn crest_check(crest: &[u8]) -> u32
-    ensures { λ r. ⌜ r ≡ checkCall (now (crest .entry)) ⌝ }
+    ensures { λ r. ⌜ r ≡ checkCall (fileCrest (now (crest .entry))) ⌝ }
 {
-    let checked = alignment::accept::check(crest);
+    let checked = entries::check(crest);
     outcome_code(checked)
 }
 
@@ -76,7 +79,7 @@ pub extern "C" fn crest_acknowledge(run: &mut [u8]) -> u32
 
 // A reading on a run. Where the bytes are no run, 18, or the run is full, 16, the crest is not looked at.
 fn note_reading(crest: &[u8], reading: Reading, run: &mut [u8]) -> u32
-    ensures { λ r. ⌜ (r, now (run .exit)) ≡ readingCall (now (crest .entry)) reading (now (run .entry)) ⌝ }
+    ensures { λ r. ⌜ (r, now (run .exit)) ≡ readingCall (answerTo (fileCrest (now (crest .entry))) reading) (now (run .entry)) ⌝ }
 {
     if run.len() != layout::RUN_SIZE {
         return refusals::WRONG_ROOM;
@@ -85,13 +88,17 @@ fn note_reading(crest: &[u8], reading: Reading, run: &mut [u8]) -> u32
     if is_full(state) {
         return refusals::RUN_FULL;
     }
-    count_reading(answers::answer(crest, reading), run)
+    let noted = count_answer(entries::answer(crest, reading), state);
+    let answer = noted.answer;
+    let after = noted.run;
+    put_run(run, after);
+    answer_code(answer)
 }
 
 // Station and offset of a plane point, counted on a run.
 #[no_mangle]
 pub extern "C" fn crest_plane_reading(crest: &[u8], x: f64, y: f64, run: &mut [u8]) -> u32
-    ensures { λ r. ⌜ (r, now (run .exit)) ≡ readingCall (now (crest .entry)) (PlanePoint x y) (now (run .entry)) ⌝ }
+    ensures { λ r. ⌜ (r, now (run .exit)) ≡ readingCall (answerTo (fileCrest (now (crest .entry))) (PlanePoint x y)) (now (run .entry)) ⌝ }
 {
     note_reading(crest, Reading::PlanePoint { x, y }, run)
 }
@@ -99,7 +106,7 @@ pub extern "C" fn crest_plane_reading(crest: &[u8], x: f64, y: f64, run: &mut [u
 // The point at a station and an offset, counted on a run.
 #[no_mangle]
 pub extern "C" fn crest_line_reading(crest: &[u8], station: f64, offset: f64, run: &mut [u8]) -> u32
-    ensures { λ r. ⌜ (r, now (run .exit)) ≡ readingCall (now (crest .entry)) (LinePlace station offset) (now (run .entry)) ⌝ }
+    ensures { λ r. ⌜ (r, now (run .exit)) ≡ readingCall (answerTo (fileCrest (now (crest .entry))) (LinePlace station offset)) (now (run .entry)) ⌝ }
 {
     note_reading(crest, Reading::LinePlace { station, offset }, run)
 }

@@ -7,7 +7,7 @@ use denote.Ref.{now}
 use Rattle.model.specs.declared.Point.{Point}
 use Rattle.model.specs.declared.Move.{Move}
 use Rattle.model.specs.Answers.{code, paperOfMove, stakeOut}
-use Rattle.model.specs.Run.{moveBytes}
+use Rattle.model.specs.Calls.{moveBytes}
 use Rattle.codes.specs.Codes.{Movable}
 use Rattle.codes.proofs.Widths.{wide-fits, wide, as-came}
 use Rattle.crest.proofs.Moves.{stake-18, stake-answered, stake-movable}

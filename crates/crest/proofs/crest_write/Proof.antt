@@ -7,7 +7,7 @@ use denote.Ref.{now}
 use borrow.Author.Needs.{needs}
 use Rattle.model.specs.declared.Outcome.{Outcome}
 use Rattle.model.specs.Answers.{code, paperOfOutcome}
-use Rattle.model.specs.Run.{writeCall}
+use Rattle.model.specs.Calls.{writeCall}
 use Rattle.codes.specs.Codes.{Small}
 use Rattle.codes.proofs.Codes.{writer-small}
 use Rattle.crest.proofs.crest_write.Statement.{statement}

@@ -1,25 +1,31 @@
--- `crest::note_reading` meets its contract: 18, then 16, then the reading on the crest.
+-- `crest::note_reading` meets its contract: 18, then 16, then the reading on the crest, counted on the run that the bytes spelled.
 use Prim.Native.Nat.{ℕ}
+use mathlib.Core.Bool.{false}
 use mathlib.Core.List.{List}
 use mathlib.Core.Path.{_≡_, sym, ap, ap₂, _∙_, subst}
 use denote.Ref.{now}
+use borrow.Author.Needs.{needs}
+use Rattle.model.specs.declared.Noted.{Noted}
 use Rattle.model.specs.declared.ReadingAnswer.{ReadingAnswer}
+use Rattle.model.specs.declared.Run.{Run}
+use Rattle.model.specs.Crest.{fileCrest}
 use Rattle.model.specs.Answers.{code}
-use Rattle.model.specs.Readings.{paperOfReading}
-use Rattle.model.specs.Run.{isFull, counted, shownOf, runAt, runBytes}
+use Rattle.model.specs.Readings.{answerTo, paperOfReading}
+use Rattle.model.specs.Run.{isFull, counted, noted, shownOf, runAt, runBytes}
+use Rattle.sources.proofs.Sound.{file-sound}
 use Rattle.readings.proofs.Narrow.{stored}
+use Rattle.readings.proofs.Noting.{noted-counted}
 use Rattle.readings.proofs.Calls.{reading-18, reading-16, reading-counted}
 use Rattle.answers.proofs.Storable.{answer-storable}
 use Rattle.codes.specs.Codes.{Small}
 use Rattle.codes.proofs.Readings.{answer-small}
-use borrow.Author.Needs.{needs}
 use Rattle.crest.proofs.note_reading.Statement.{statement}
 use Rattle.crest.proofs.note_reading.Tie as tie
 
 returns : tie.Need-returns
 returns c =
     let a = c .before .before .before .args in
-    sym (reading-18 (now (a .crest)) (a .reading) (now (a .run)) (c .if1 .taken))
+    sym (reading-18 (answerTo (fileCrest (now (a .crest))) (a .reading)) (now (a .run)) (c .if1 .taken))
 
 run-at-requires : tie.Need-run-at-requires
 run-at-requires c κs = search needs
@@ -37,31 +43,59 @@ returns-2 : tie.Need-returns-2
 returns-2 c =
     let e = c .before .before .before .before in
     let a = e .before .before .before .args in
-    sym (reading-16 (now (a .crest)) (a .reading) (now (a .run)) (e .if1 .left) (tested (c .before) ∙ c .if2 .taken))
+    sym (reading-16 (answerTo (fileCrest (now (a .crest))) (a .reading)) (now (a .run)) (e .if1 .left) (tested (c .before) ∙ c .if2 .taken))
 
 answer-requires : tie.Need-answer-requires
 answer-requires c κs = search needs
 
-count-reading-requires : tie.Need-count-reading-requires
-count-reading-requires c κs =
-    let t = c .before in
-    let a = t .before .before .before .before .before .before .before .before .args in
-    let small = subst (λ (x : ReadingAnswer). Small (paperOfReading x)) (sym (t .answer .ensures)) (answer-small (now (a .crest)) (a .reading)) in
-    (search needs, (tested (t .before .before) ∙ t .before .if2 .left, (stored (sym (t .answer .ensures)) (answer-storable (now (a .crest)) (a .reading)), small)))
+module _ (c : tie.After-answer) where
+  abbrev full : tie.After-is-full
+  full = c .before .before
+
+  abbrev start : tie.Start
+  start = full .before .before .before .before .before .before
+
+  -- what the reading comes to
+  abbrev came : ReadingAnswer
+  came = answerTo (fileCrest (now (start .args .crest))) (start .args .reading)
+
+  abbrev state : Run
+  state = runAt (now (start .args .run))
+
+  has-room : isFull state ≡ false
+  has-room = tested full ∙ c .before .if2 .left
+
+count-answer-requires : tie.Need-count-answer-requires
+count-answer-requires c κs =
+    (rw (full c .before .run-at .ensures) (has-room c), stored (sym (c .answer .ensures .0)) (answer-storable (fileCrest _) (file-sound _) _))
+
+-- what is counted
+told : (c : tie.After-count-answer) → c .count-answer .result ≡ record { answer = came (c .before); run = counted (shownOf (came (c .before))) (state (c .before)) }
+told c =
+    let k = c .before in
+    c .count-answer .ensures
+    ∙ ap₂ (λ (a : ReadingAnswer) (r : Run). noted a r) (k .answer .ensures .0) (full k .before .run-at .ensures)
+    ∙ noted-counted (came k) (state k) (has-room k)
+
+put-run-requires : tie.Need-put-run-requires
+put-run-requires c κs = search needs
+
+answer-code-requires : tie.Need-answer-code-requires
+answer-code-requires c κs =
+    subst (λ (n : Noted). Small (paperOfReading 0 (n .answer))) (sym (told (c .before .before .before .before .before))) (answer-small (fileCrest _) (file-sound _) _)
 
 same-length-2 : tie.Need-same-length-2
 same-length-2 c = search needs
 
 returns-3 : tie.Need-returns-3
 returns-3 c =
-    let n = c .before .before in
-    let t = n .before .before in
-    let e = t .before .before .before .before .before in
-    let a = e .before .before .before .args in
-    let run = now (a .run) in
-    ap₂ (λ (r : ℕ) (l : List ℕ). (r, l)) (n .count-reading .ensures .0) (n .count-reading .ensures .1)
-    ∙ ap (λ (x : ReadingAnswer). (code (paperOfReading x), runBytes (counted (shownOf x) (runAt run)) run)) (t .answer .ensures)
-    ∙ sym (reading-counted (now (a .crest)) (a .reading) run (e .if1 .left) (tested (t .before .before) ∙ t .before .if2 .left))
+    let p = c .before .before .before in
+    let n = p .before .before .before in
+    let k = n .before in
+    let run = now (start k .args .run) in
+    ap₂ (λ (r : ℕ) (l : List ℕ). (r, l)) (c .answer-code .ensures) (p .put-run .ensures)
+    ∙ ap (λ (x : Noted). (code (paperOfReading 0 (x .answer)), runBytes (x .run) run)) (told n)
+    ∙ sym (reading-counted (came k) run (full k .before .before .before .if1 .left) (has-room k))
 
 pub note-reading-spec : {M : Type 1} → statement M
 note-reading-spec =
@@ -73,6 +107,8 @@ note-reading-spec =
     same-length
     returns-2
     answer-requires
-    count-reading-requires
+    count-answer-requires
+    put-run-requires
+    answer-code-requires
     same-length-2
     returns-3)

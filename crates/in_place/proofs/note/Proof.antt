@@ -1,7 +1,7 @@
 -- `in_place::note` meets its contract: a walk of its MIR, by hand. The borrow is opened, the run behind it is copied and passed to
--- `answers::note` with the crest and the reading, the run that comes back is stored, the borrow is closed at it, and the answer is returned.
+-- `answers::note_file` with the crest and the reading, the run that comes back is stored, the borrow is closed at it, and the answer is returned.
 -- Assumes nothing.
-use mathlib.Core.Path.{_≡_, refl, ap}
+use mathlib.Core.Path.{_≡_, refl, ap, _∙_}
 use Prim.Native.Nat.{ℕ, zero}
 use mathlib.Core.List.{[], _∷_, List}
 use lib.ListN.{length}
@@ -46,7 +46,10 @@ use Rattle.model.specs.declared.Noted.{Noted}
 use Rattle.model.specs.declared.Reading.{Reading}
 use Rattle.model.specs.declared.ReadingAnswer.{ReadingAnswer}
 use Rattle.model.specs.declared.Run.{Run}
-use Rattle.model.specs.Run.{noted}
+use Rattle.model.specs.Crest.{fileCrest}
+use Rattle.model.specs.Readings.{answerTo, valueCount, paperOfReading, readingPaper}
+use Rattle.model.specs.Run.{noted, notedPaper}
+use Rattle.model.proofs.Answers.{noted-paper}
 use Rattle.model.proofs.Noted as N
 use Rattle.model.proofs.Noted.Laws as N′
 use Rattle.model.proofs.Reading as R
@@ -55,10 +58,10 @@ use Rattle.model.proofs.ReadingAnswer as S
 use Rattle.model.proofs.ReadingAnswer.Laws as S′
 use Rattle.model.proofs.Run as T
 use Rattle.model.proofs.Run.Laws as T′
-use Rattle.answers.proofs.note as step
-use Rattle.answers.proofs.note.Symbol as step-def
-use Rattle.answers.proofs.note.Symbol.{name as #step}
-use Rattle.answers.proofs.note.Met as step-thm
+use Rattle.answers.proofs.note_file as step
+use Rattle.answers.proofs.note_file.Symbol as step-def
+use Rattle.answers.proofs.note_file.Symbol.{name as #step}
+use Rattle.answers.proofs.note_file.Met as step-thm
 use Rattle.in_place.proofs.note.Key.{name as #this}
 use Rattle.in_place.proofs.note as f
 use Rattle.in_place.proofs.note.Statement as stated
@@ -106,11 +109,15 @@ module _ {M : Type 1} (𝓤 : URA M) (H : Heap 𝓤) (A : Atoms 𝓤) (W : Given
   run-is : (r : Noted) (w : Val) → Is N.the-row r (w ∷ []) → Is T.the-row (r .run) (mach (r .run) ∷ [])
   run-is r w is = LL.owed N.the-type N′.the-laws r _ is .1 .0
 
-  exits : (r : Noted) (w : Val) → Is N.the-row r (w ∷ []) → r ≡ noted (now s) g h
+  -- and of its number, place and values
+  paper : (r : Noted) → r ≡ noted (answerTo (fileCrest (now s)) g) h → paperOfReading (valueCount g) (r .answer) ≡ notedPaper (readingPaper (fileCrest (now s)) g) h
+  paper r e = ap (λ (n : Noted). paperOfReading (valueCount g) (n .answer)) e ∙ noted-paper (fileCrest (now s)) g h
+
+  exits : (r : Noted) (w : Val) → Is N.the-row r (w ∷ []) → r ≡ noted (answerTo (fileCrest (now s)) g) h
       → ent 𝓤 (⋆ 𝓤 H A (‵ (fobs γ (T.the-row .coded .code (r .run))) ∷ ‵ (fbor κ′ (Body (mem T.the-row) b o γ)) ∷ ‵ (flft κ′ q′) ∷ (‵ (flft κ q) ⊛ ‵ ftrue) ∷ ‵ Own ∷ [])) (Post (says-back (r .answer)))
   exits r w is e =
       qed W (‵ (fobs γ (T.the-row .coded .code (r .run))) ∷ ‵ (fbor κ′ (Body (mem T.the-row) b o γ)) ∷ ‵ (flft κ′ q′) ∷ (‵ (flft κ q) ⊛ ‵ ftrue) ∷ ‵ Own ∷ []) ∵
-      suffices ! _ (ends-at 𝓤 H A f.ended stayed (f.clauses 𝓤 H A at-mem run) W (((κ, (κ′, tt)), (q, (q′, tt)), bounds, x, at), tt) (says-back (r .answer)) (r .answer) (tt, (tt, (r .run, tt))) (tt, (tt, (tt, tt)))) $ says ! e $
+      suffices ! _ (ends-at 𝓤 H A f.ended stayed (f.clauses 𝓤 H A at-mem run) W (((κ, (κ′, tt)), (q, (q′, tt)), bounds, x, at), tt) (says-back (r .answer)) (r .answer) (tt, (tt, (r .run, tt))) (tt, (tt, (tt, tt)))) $ says ! (e, paper r e) $
       move ! (3 ∷ []) $ split ! $ move ! (4 ∷ 1 ∷ []) $ join ! $ move ! (1 ∷ 0 ∷ []) $ join ! $ frame ! $
       feqI ! (List Val) (vptr b o ∷ []) (vptr b o ∷ []) refl $ fjoin3 ! $ nothing ! $ move ! (1 ∷ 0 ∷ []) $ fjoin ! $
       owned ! R.the-row (Is R.the-row) ((EL.makes R.the-type R′.the-plain) 𝓤 H A) g _ given $ fjoin ! $ move ! (1 ∷ 0 ∷ []) $ fjoin ! $
@@ -125,8 +132,8 @@ module _ {M : Type 1} (𝓤 : URA M) (H : Heap 𝓤) (A : Atoms 𝓤) (W : Given
       owned ! R.the-row (Is R.the-row) ((EL.makes R.the-type R′.the-plain) 𝓤 H A) g _ given $ fjoin ! $ move ! (2 ∷ 0 ∷ []) $ fjoin ! $ move ! (1 ∷ 0 ∷ []) $ join ! $ frame ! $ done !
 
   -- of what the step ensures, the clause alone: it has no `&mut`, so what is said of last values is dropped
-  said : (r : Noted) → ent 𝓤 (ensured 𝓤 H A step.ended (step.clauses 𝓤 H A at-mem run) (κ, tt) (s, (g, (h, tt))) tt r) (fact 𝓤 (r ≡ noted (now s) g h))
-  said r = exE 𝓤 _ (λ ws. snd∗ 𝓤 (sem 𝓤 H A (lasts step.ended (κ, tt) (s, (g, (h, tt))) ws)) (fact 𝓤 (r ≡ noted (now s) g h)))
+  said : (r : Noted) → ent 𝓤 (ensured 𝓤 H A step.ended (step.clauses 𝓤 H A at-mem run) (κ, tt) (s, (g, (h, tt))) tt r) (fact 𝓤 (r ≡ noted (answerTo (fileCrest (now s)) g) h))
+  said r = exE 𝓤 _ (λ ws. snd∗ 𝓤 (sem 𝓤 H A (lasts step.ended (κ, tt) (s, (g, (h, tt))) ws)) (fact 𝓤 (r ≡ noted (answerTo (fileCrest (now s)) g) h)))
 
   module _ (C : Calls 𝓤 H) (Λ : Loops 𝓤 H) (fm : FmC 𝓤 H (W .laws) C) (known : Triple 𝓤 (C #step) (Step 𝓤 H A at-mem run)) where
     walk : Is (ShrSlice (named 0) κ u8) s (v ∷ []) → ent 𝓤 (onEntry 𝓤 H A f.signature (κ, (κ′, tt)) (q, (q′, tt)) x at) (WpFn 𝓤 H C Λ code.function (v ∷ asks ∷ vptr b o ∷ []) Post)
@@ -145,7 +152,7 @@ module _ {M : Type 1} (𝓤 : URA M) (H : Heap 𝓤) (A : Atoms 𝓤) (W : Given
         use2 W (raw (Step 𝓤 H A at-mem run .pre to-step)) (goes-step was) $
         calls-at ! fm (Step 𝓤 H A at-mem run) known to-step (and-then ! (load ! (from ! (stop !)) (look ! 15 refl)) (and-then ! (load ! (from ! (stop !)) (look ! 13 refl)) (and-then ! (load ! (from ! (stop !)) (look ! 7 refl)) (no-more !)))) (λ w.
         use1 W (later (some (λ (r : Noted). ((‵ (flft κ q) ⊛ ‵ ftrue) ⊛ ‵ (N.the-row .own r (w ∷ []))) ⊛ raw (ensured 𝓤 H A step.ended (step.clauses 𝓤 H A at-mem run) (κ, tt) (s, (g, (h, tt))) tt r)))) (id⊢ 𝓤 _) $ await ! tt $ pick ! (λ r.
-        split ! $ move ! (1 ∷ []) $ use1 W (raw (fact 𝓤 (r ≡ noted (now s) g h))) (said r) $ heard ! (r ≡ noted (now s) g h) (λ e. split ! $ move ! (1 ∷ []) $
+        split ! $ move ! (1 ∷ []) $ use1 W (raw (fact 𝓤 (r ≡ noted (answerTo (fileCrest (now s)) g) h))) (said r) $ heard ! (r ≡ noted (answerTo (fileCrest (now s)) g) h) (λ e. split ! $ move ! (1 ∷ []) $
         peeks ! N.the-row (Is N.the-row) (shows 𝓤 H A N.the-row) r (w ∷ []) (λ is.
         -- [what a Noted owns; the crest's token; what the crest owns; the run's cell; what the old Run owns; the open borrow; obs; auth; _5; …; _4; …; _3; …; _2; …; _1; …; room for _0; …]
         land ! (from ! (stop !)) (init ! 10 refl (LL.lawful N.the-type N′.the-laws 𝓤 H A W .typed r _ is .0)) $
@@ -177,4 +184,4 @@ note-spec 𝓤 H 𝓜 𝓖 𝓡 =
     entered 𝓤 H (tripleOf 𝓤 H (𝓖 .A) f.signature (f.spec 𝓤 H (𝓖 .A) (𝓜 .mem) (𝓡 .run)))
     (tables 𝓤 H 𝓜 𝓡 code.env .C) (tables 𝓤 H 𝓜 𝓡 code.env .Λ) #this code.function (code.unfolded 𝓤 H 𝓜 𝓡)
     (meets 𝓤 H (𝓖 .A) (givenOf 𝓤 H 𝓜 𝓖) (𝓜 .mem) (𝓡 .run) (tablesOf 𝓤 H 𝓜 (tables 𝓤 H 𝓜 𝓡 code.env))
-    (cited 𝓤 H (Step 𝓤 H (𝓖 .A) (𝓜 .mem) (𝓡 .run)) 𝓜 𝓡 code.env #step step-def.routine code.calls-answers·note (step-thm.met 𝓤 H 𝓜 𝓖 𝓡)))
+    (cited 𝓤 H (Step 𝓤 H (𝓖 .A) (𝓜 .mem) (𝓡 .run)) 𝓜 𝓡 code.env #step step-def.routine code.calls-answers·note-file (step-thm.met 𝓤 H 𝓜 𝓖 𝓡)))

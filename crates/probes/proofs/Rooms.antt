@@ -14,7 +14,8 @@ use Rattle.model.specs.declared.Inverse.{Inverse}
 use Rattle.model.specs.declared.Inverse.the-variants.{At as InverseAt, Refused as InverseRefused}
 use Rattle.model.specs.Records.{putAll}
 use Rattle.model.specs.Refusals.{refusal, orRefused, verdict}
-use Rattle.model.specs.Answers.{code, paperOfPlaced, paperOfLocated, paperOfInverse, placedIf, placed, locatedIf, locatedAfter, located, inverseIf, inverseAfter, inverse}
+use Rattle.model.specs.Crest.{Crest}
+use Rattle.model.specs.Answers.{code, paperOfPlaced, paperOfLocated, paperOfInverse, placedIf, placedAfter, placed, locatedIf, locatedAfter, located, inverseIf, inverseAfter, inverse}
 use Rattle.probes.specs.declared.Reply.{Reply}
 use Rattle.probes.specs.Replies.{fromPlaced, fromLocated, fromInverse, replyCode, replyBytes}
 use Rattle.probes.specs.Calls.{roomRules, placedBytes, locatedBytes, inverseBytes, positionCall, locateCall, inverseCall}
@@ -41,38 +42,38 @@ unfolding code paperOfInverse inverseBytes putAll fromInverse replyCode replyByt
 inverse-sent (InverseAt x y) room = refl
 inverse-sent (InverseRefused why) room = refl
 
-module _ (file room : List ℕ) where
+module _ (c : Crest) (room : List ℕ) where
   module _ (other : length room ≡ 16 → ⊥) where
-    pub position-18 : (s : ℤ) → positionCall file s room ≡ (18, room)
-    unfolding positionCall roomRules verdict orRefused refusal placedIf code paperOfPlaced placedBytes
+    pub position-18 : (s : ℤ) → positionCall c s room ≡ (18, room)
+    unfolding positionCall roomRules verdict orRefused refusal placedAfter placedIf code paperOfPlaced placedBytes
     position-18 s = rw (ne-eqb (length room) 16 other)
 
-    pub locate-18 : (p : Point) → locateCall file p room ≡ (18, room)
+    pub locate-18 : (p : Point) → locateCall c p room ≡ (18, room)
     unfolding locateCall roomRules verdict orRefused refusal locatedAfter locatedIf code paperOfLocated locatedBytes
     locate-18 p = rw (ne-eqb (length room) 16 other)
 
-  pub inverse-18 : (length room ≡ 8 → ⊥) → (s w : ℤ) → inverseCall file s w room ≡ (18, room)
+  pub inverse-18 : (length room ≡ 8 → ⊥) → (s w : ℤ) → inverseCall c s w room ≡ (18, room)
   unfolding inverseCall roomRules verdict orRefused refusal inverseAfter inverseIf code paperOfInverse inverseBytes
   inverse-18 other s w = rw (ne-eqb (length room) 8 other)
 
   module _ (sized : length room ≡ 16) where
-    position-by : (s : ℤ) → positionCall file s room ≡ (code (paperOfPlaced (placed file s)), placedBytes (placed file s) room)
-    unfolding positionCall roomRules verdict orRefused placed
+    position-by : (s : ℤ) → positionCall c s room ≡ (code (paperOfPlaced (placed c s)), placedBytes (placed c s) room)
+    unfolding positionCall roomRules verdict orRefused placedAfter placed
     position-by s = rw (eq-eqb (length room) 16 sized)
 
-    pub position-call-sent : (s : ℤ) → positionCall file s room ≡ sent (fromPlaced (placed file s)) room
-    position-call-sent s = position-by s ∙ placed-sent (placed file s) room
+    pub position-call-sent : (s : ℤ) → positionCall c s room ≡ sent (fromPlaced (placed c s)) room
+    position-call-sent s = position-by s ∙ placed-sent (placed c s) room
 
-    locate-by : (p : Point) → locateCall file p room ≡ (code (paperOfLocated (located file p)), locatedBytes (located file p) room)
+    locate-by : (p : Point) → locateCall c p room ≡ (code (paperOfLocated (located c p)), locatedBytes (located c p) room)
     unfolding locateCall roomRules verdict orRefused locatedAfter located
     locate-by p = rw (eq-eqb (length room) 16 sized)
 
-    pub locate-call-sent : (p : Point) → locateCall file p room ≡ sent (fromLocated (located file p)) room
-    locate-call-sent p = locate-by p ∙ located-sent (located file p) room
+    pub locate-call-sent : (p : Point) → locateCall c p room ≡ sent (fromLocated (located c p)) room
+    locate-call-sent p = locate-by p ∙ located-sent (located c p) room
 
-  inverse-by : length room ≡ 8 → (s w : ℤ) → inverseCall file s w room ≡ (code (paperOfInverse (inverse file s w)), inverseBytes (inverse file s w) room)
+  inverse-by : length room ≡ 8 → (s w : ℤ) → inverseCall c s w room ≡ (code (paperOfInverse (inverse c s w)), inverseBytes (inverse c s w) room)
   unfolding inverseCall roomRules verdict orRefused inverseAfter inverse
   inverse-by sized s w = rw (eq-eqb (length room) 8 sized)
 
-  pub inverse-call-sent : length room ≡ 8 → (s w : ℤ) → inverseCall file s w room ≡ sent (fromInverse (inverse file s w)) room
-  inverse-call-sent sized s w = inverse-by sized s w ∙ inverse-sent (inverse file s w) room
+  pub inverse-call-sent : length room ≡ 8 → (s w : ℤ) → inverseCall c s w room ≡ sent (fromInverse (inverse c s w)) room
+  inverse-call-sent sized s w = inverse-by sized s w ∙ inverse-sent (inverse c s w) room

@@ -1,6 +1,6 @@
--- Every answer over a crest's bytes can be sent: its numbers fit 32 bits, and its refusal is one of the table's.
+-- Every answer on a crest can be sent: its numbers fit 32 bits, and its refusal is one of the table's.
 use Prim.Native.Nat.{ℕ, _≤_}
-use mathlib.Core.List.{List, [], _∷_, _++_}
+use mathlib.Core.List.{List, _++_}
 use mathlib.Core.Path.{_≡_, refl, sym, _∙_, subst}
 use native.Mathlib.Omega.{arith}
 use lib.IntN.{ℤ, natAbs}
@@ -12,22 +12,19 @@ use Rattle.model.specs.declared.Outcome.the-variants.{Done, Refused}
 use Rattle.model.specs.declared.Placed.the-variants.{At as PlacedAt}
 use Rattle.model.specs.declared.Located.the-variants.{At as LocatedAt}
 use Rattle.model.specs.declared.Inverse.the-variants.{At as InverseAt}
-use Rattle.model.specs.Refusals.{Rule, rule₀, verdict, askedOutOfRange}
-use Rattle.model.specs.Acceptance.{frame, checked, crestRules, crestElements}
-use Rattle.model.specs.Stations.{isStation}
+use Rattle.model.specs.Refusals.{verdict}
+use Rattle.model.specs.Acceptance.{frame}
+use Rattle.model.specs.Crest.{Crest, checkOf, SoundCrest}
 use Rattle.model.specs.Judged.{judged}
-use Rattle.model.specs.Answers.{paperOfOutcome, pointRules, lineRules, placedIf, placed, locatedIf, locatedAfter, located, inverseIf, inverseAfter, inverse}
-use Rattle.model.proofs.Answers.{located-accepted, located-before}
+use Rattle.model.specs.Answers.{paperOfOutcome, stationRules, pointRules, lineRules, placedIf, placedAfter, placed, locatedIf, locatedAfter, located, inverseIf, inverseAfter, inverse}
+use Rattle.model.proofs.Answers.{located-accepted, located-refused}
 use Rattle.elements.specs.Extent.{Placeable}
-use Rattle.alignment.proofs.AcceptCrest.{crest-accepted, crest-some}
-use Rattle.stations.proofs.AskSmall.{placed-small, inverse-of-small}
+use Rattle.stations.proofs.CrestSmall.{placed-small, inverse-of-small}
 use Rattle.stations.proofs.StationTotal.{total-within}
 use Rattle.walk_laws.proofs.Outcomes.{answered, count-is}
 use Rattle.nearest.proofs.Fitting.{Fits, answer-fits}
-use Rattle.answers.proofs.Storable.{most-elements}
 use Rattle.codes.specs.Codes.{Small}
-use Rattle.codes.proofs.Codes.{SmallOrder, one-small, then-small, crest-small}
-use Rattle.codes.proofs.Readings.{point-small, line-small}
+use Rattle.codes.proofs.Readings.{station-small, point-small, line-small}
 use Rattle.probes.specs.declared.Reply.{Reply}
 use Rattle.probes.specs.Replies.{fromPlaced, fromLocated, fromInverse, Sendable}
 use Rattle.probes.proofs.Visited.{visits-within}
@@ -63,47 +60,36 @@ unfolding inverseIf paperOfOutcome fromInverse Sendable
 inverse-if Done es s w k f = let a = f _ _ refl in (refl, fits-below (omega (arith, a .0)), fits-below (omega (arith, a .1)))
 inverse-if (Refused why) es s w k f = k
 
--- ---- over a crest's bytes
+-- ---- on a crest of any source
 
-module _ (file : List ℕ) where
+module _ (c : Crest) (sound : SoundCrest c) where
   abbrev es : List Element
-  es = crestElements file
+  es = c .elements
 
-  -- the crest's rules, and then the question's
-  asked-small : (rs : List Rule) → SmallOrder rs → SmallOrder (crestRules file ++ rs)
-  asked-small rs k = then-small (crestRules file) rs (crest-small file) (λ d. k)
+  pub placed-sendable : (s : ℤ) → Sendable 16 (fromPlaced (placed c s))
+  unfolding placed placedAfter
+  placed-sendable s = placed-if (verdict (c .rules ++ stationRules es s)) es (natAbs s) (station-small (c .rules) (sound .places) es s) (λ x y tx ty e. placed-small c sound s e)
 
-  pub placed-sendable : (s : ℤ) → Sendable 16 (fromPlaced (placed file s))
-  unfolding placed
-  placed-sendable s =
-      let rs = rule₀ askedOutOfRange (isStation es s) ∷ [] in
-      placed-if (verdict (crestRules file ++ rs)) es (natAbs s) (asked-small rs (one-small askedOutOfRange 0 (isStation es s) (omega arith))) (λ x y tx ty e. placed-small file s e)
-
-  located-answers : (p : Point) (o : Outcome) → checked file ≡ o → (station : ℕ) (offset residual : ℤ) (visits : ℕ) → located file p ≡ LocatedAt station offset residual visits → Answers station offset residual visits
-  unfolding located checked
+  located-answers : (p : Point) (o : Outcome) → checkOf c ≡ o → (station : ℕ) (offset residual : ℤ) (visits : ℕ) → located c p ≡ LocatedAt station offset residual visits → Answers station offset residual visits
   located-answers p Done k station offset residual visits e =
-      let on = sym (located-accepted file p k) ∙ e in
-      let accepted = crest-accepted file k in
-      let most = most-elements file k in
+      let on = sym (located-accepted c p k) ∙ e in
+      let accepted = sound .accepted k in
       let a = answered es p station offset residual visits .0 on in
       record {
-        values = answer-fits es most accepted p station offset residual visits on;
-        few = omega (arith, a .count, count-is es p, visits-within es (crest-some file k) accepted p, total-within es accepted, most);
+        values = answer-fits es (accepted .most) (accepted .each) p station offset residual visits on;
+        few = omega (arith, a .count, count-is es p, visits-within es (accepted .some) (accepted .each) p, total-within es (accepted .each), accepted .most);
       }
   located-answers p (Refused why) k station offset residual visits e =
-      let r = located-before (crestRules file) es p k in
+      let r = located-refused c p k in
       let z : _≡_ {A = ℕ} 0 1 = cc in
       absurd (omega arith)
 
-  pub located-sendable : (p : Point) → Sendable 16 (fromLocated (located file p))
+  pub located-sendable : (p : Point) → Sendable 16 (fromLocated (located c p))
   unfolding located locatedAfter
   located-sendable p =
       let s = judged es p in
-      let rs = pointRules es p s in
-      located-if (verdict (crestRules file ++ rs)) es p s (asked-small rs (point-small es p s)) (located-answers p (checked file) refl)
+      located-if (verdict (c .rules ++ pointRules es p s)) es p s (point-small (c .rules) (sound .places) es p s) (located-answers p (checkOf c) refl)
 
-  pub inverse-sendable : (s w : ℤ) → Sendable 8 (fromInverse (inverse file s w))
+  pub inverse-sendable : (s w : ℤ) → Sendable 8 (fromInverse (inverse c s w))
   unfolding inverse inverseAfter
-  inverse-sendable s w =
-      let rs = lineRules es s w in
-      inverse-if (verdict (crestRules file ++ rs)) es s w (asked-small rs (line-small es s w)) (λ x y e. inverse-of-small file s w e)
+  inverse-sendable s w = inverse-if (verdict (c .rules ++ lineRules es s w)) es s w (line-small (c .rules) (sound .places) es s w) (λ x y e. inverse-of-small c s w e)

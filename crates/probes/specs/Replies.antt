@@ -1,6 +1,6 @@
 -- The three answers of the calls in one form: four numbers of 32 bits, two, or a refusal.
 use Prim.Native.Nat.{ℕ}
-use mathlib.Core.List.{List, []}
+use mathlib.Core.List.{List}
 use mathlib.Core.Path.{_≡_}
 use lib.IntN.{pos}
 use mir.Syntax.{w32}
@@ -33,7 +33,7 @@ unfoldable pub replyCode : Reply → ℕ
 unfolding code
 replyCode (Four a b c d) = 0
 replyCode (Two a b) = 0
-replyCode (Refused why) = code (refusedWith why [])
+replyCode (Refused why) = code (refusedWith why 0)
 
 unfoldable pub replyBytes : Reply → List ℕ → List ℕ
 unfolding put
@@ -45,4 +45,4 @@ replyBytes (Refused why) old = old
 unfoldable pub Sendable : ℕ → Reply → Type 0
 Sendable room (Four a b c d) = (room ≡ 16) × SFits w32 a × SFits w32 b × SFits w32 c × SFits w32 d
 Sendable room (Two a b) = (room ≡ 8) × SFits w32 a × SFits w32 b
-Sendable room (Refused why) = Small (refusedWith why [])
+Sendable room (Refused why) = Small (refusedWith why 0)

@@ -13,6 +13,7 @@ use model::refusals;
 ghost use mathlib.Core.Path.{_≡_};
 ghost use lib.ListN.{length};
 ghost use lib.IntN.{pos};
+ghost use Rattle.model.specs.Crest.{fileCrest};
 ghost use Rattle.probes.specs.Replies.{fromPlaced, fromLocated, fromInverse, replyCode, replyBytes, Sendable};
 ghost use Rattle.probes.specs.Calls.{positionCall, locateCall, inverseCall};
 
@@ -94,7 +95,7 @@ fn send(reply: Reply, room: &mut [u8]) -> u32
 // X, Y, Tx, Ty at a station, each i32: 18 first, for room that is not 16 bytes.
 #[no_mangle]
 pub extern "C" fn probe_position(file: &[u8], station: u32, out: &mut [u8]) -> u32
-    ensures { λ r. ⌜ (r, now (out .exit)) ≡ positionCall (now (file .entry)) (pos station) (now (out .entry)) ⌝ }
+    ensures { λ r. ⌜ (r, now (out .exit)) ≡ positionCall (fileCrest (now (file .entry))) (pos station) (now (out .entry)) ⌝ }
 {
     if out.len() != FOUR_SIZE {
         return refusals::WRONG_ROOM;
@@ -105,7 +106,7 @@ pub extern "C" fn probe_position(file: &[u8], station: u32, out: &mut [u8]) -> u
 // Station, offset and residual of a point, and how many stations were visited, each of 32 bits: 18 first, for room that is not 16 bytes.
 #[no_mangle]
 pub extern "C" fn probe_locate(file: &[u8], x: i32, y: i32, out: &mut [u8]) -> u32
-    ensures { λ r. ⌜ (r, now (out .exit)) ≡ locateCall (now (file .entry)) (record { x = x; y = y }) (now (out .entry)) ⌝ }
+    ensures { λ r. ⌜ (r, now (out .exit)) ≡ locateCall (fileCrest (now (file .entry))) (record { x = x; y = y }) (now (out .entry)) ⌝ }
 {
     if out.len() != FOUR_SIZE {
         return refusals::WRONG_ROOM;
@@ -116,7 +117,7 @@ pub extern "C" fn probe_locate(file: &[u8], x: i32, y: i32, out: &mut [u8]) -> u
 // X, Y at a station and an offset, each i32: 18 first, for room that is not 8 bytes.
 #[no_mangle]
 pub extern "C" fn probe_inverse(file: &[u8], station: u32, offset: i32, out: &mut [u8]) -> u32
-    ensures { λ r. ⌜ (r, now (out .exit)) ≡ inverseCall (now (file .entry)) (pos station) offset (now (out .entry)) ⌝ }
+    ensures { λ r. ⌜ (r, now (out .exit)) ≡ inverseCall (fileCrest (now (file .entry))) (pos station) offset (now (out .entry)) ⌝ }
 {
     if out.len() != TWO_SIZE {
         return refusals::WRONG_ROOM;

@@ -2,7 +2,6 @@
 use Prim.Native.Nat.{ℕ}
 use mathlib.Core.List.{List, [], _∷_}
 use mathlib.Core.Path.{_≡_, ap, _∙_, subst}
-use native.Mathlib.Omega.{arith}
 use lib.Dec.{ltb}
 use lib.ListN.{length}
 use borrow.Author.Tests.{eq-eqb, ne-eqb}
@@ -14,7 +13,8 @@ use Rattle.model.specs.Refusals.{rule₀, orRefused, refusal, askedOutOfRange}
 use Rattle.model.specs.Acceptance.{crestRules}
 use Rattle.model.specs.Answers.{code, refusedWith, paperOfOutcome, readerOutcome, readerPart}
 use Rattle.codes.specs.Codes.{Small}
-use Rattle.codes.proofs.Codes.{one-small, then-small, crest-small}
+use Rattle.crestfile.proofs.Placed.{none-placed, file-placed}
+use Rattle.codes.proofs.Codes.{after-small, unplaced}
 use Rattle.record_probe.specs.Calls.{recordRoom, recordCall}
 
 module _ (file : List ℕ) (r : ℕ) where
@@ -22,9 +22,9 @@ module _ (file : List ℕ) (r : ℕ) where
   unfolding readerOutcome
   reader-small =
       let known = ltb r (countOf (recordBytes file)) in
-      then-small (crestRules file) (rule₀ askedOutOfRange known ∷ []) (crest-small file) (λ d. one-small askedOutOfRange 0 known (omega arith))
+      after-small (crestRules file) (rule₀ askedOutOfRange known ∷ []) (file-placed file) (unplaced askedOutOfRange known [] none-placed)
 
-  pub refusal-small : {why : Refusal} → readerOutcome file r ≡ Refused why → Small (refusedWith why [])
+  pub refusal-small : {why : Refusal} → readerOutcome file r ≡ Refused why → Small (refusedWith why 0)
   unfolding paperOfOutcome
   refusal-small e = subst (λ (o : Outcome). Small (paperOfOutcome o)) e reader-small
 
@@ -46,6 +46,6 @@ module _ (file : List ℕ) (r : ℕ) where
       unfolding code paperOfOutcome recordRoom
       taken e = by-reader ∙ ap left e
 
-      pub refused : {why : Refusal} → readerOutcome file r ≡ Refused why → recordCall file r room ≡ (code (refusedWith why []), room)
+      pub refused : {why : Refusal} → readerOutcome file r ≡ Refused why → recordCall file r room ≡ (code (refusedWith why 0), room)
       unfolding paperOfOutcome recordRoom
       refused e = by-reader ∙ ap left e

@@ -1,13 +1,13 @@
 -- `probes::probe_inverse` meets its contract: the room first, then the station and the offset on the crest's bytes.
-use mathlib.Core.List.{List}
 use mathlib.Core.Path.{_≡_, sym, ap, ap₂, _∙_}
-use Prim.Native.Nat.{ℕ}
 use lib.IntN.{ℤ, pos}
 use mir.Syntax.{w64}
 use mir.ValLaws.{toZ-pos}
 use denote.Ref.{now}
+use Rattle.model.specs.Crest.{Crest, fileCrest}
 use Rattle.model.specs.Answers.{inverse}
 use Rattle.codes.proofs.Widths.{wide-fits, wide}
+use Rattle.sources.proofs.Sound.{file-sound}
 use Rattle.probes.specs.Replies.{fromInverse}
 use Rattle.probes.proofs.Rooms.{inverse-18, inverse-call-sent, sent-as}
 use Rattle.probes.proofs.Sent.{same-sendable, inverse-sendable}
@@ -18,16 +18,16 @@ use Rattle.probes.proofs.probe_inverse.Tie as tie
 returns : tie.Need-returns
 returns c =
     let a = c .before .before .before .args in
-    sym (inverse-18 (now (a .file)) (now (a .out)) (c .if1 .taken) (pos (a .station)) (a .offset))
+    sym (inverse-18 (fileCrest (now (a .file))) (now (a .out)) (c .if1 .taken) (pos (a .station)) (a .offset))
 
-cast-inverse-of : tie.Need-cast-inverse-of
-cast-inverse-of c = search needs
+cast-inverse : tie.Need-cast-inverse
+cast-inverse c = search needs
 
-cast-inverse-of-2 : tie.Need-cast-inverse-of-2
-cast-inverse-of-2 c = let start = c .before .before .before in wide-fits (start .args .offset) (start .fits .offset)
+cast-inverse-2 : tie.Need-cast-inverse-2
+cast-inverse-2 c = let start = c .before .before .before in wide-fits (start .args .offset) (start .fits .offset)
 
-inverse-of-requires : tie.Need-inverse-of-requires
-inverse-of-requires c κs = search needs
+inverse-requires : tie.Need-inverse-requires
+inverse-requires c κs = search needs
 
 from-inverse-requires : tie.Need-from-inverse-requires
 from-inverse-requires c κs = search needs
@@ -39,8 +39,8 @@ module _ (c : tie.After-from-inverse) where
   abbrev start : tie.Start
   start = test .before .before .before
 
-  abbrev file : List ℕ
-  file = now (start .args .file)
+  abbrev crest : Crest
+  crest = fileCrest (now (start .args .file))
 
   abbrev station : ℤ
   station = pos (start .args .station)
@@ -48,13 +48,13 @@ module _ (c : tie.After-from-inverse) where
   abbrev offset : ℤ
   offset = start .args .offset
 
-  reply : c .from-inverse .result ≡ fromInverse (inverse file station offset)
+  reply : c .from-inverse .result ≡ fromInverse (inverse crest station offset)
   reply =
       c .from-inverse .ensures
-      ∙ ap fromInverse (c .before .inverse-of .ensures ∙ ap₂ (λ (s w : ℤ). inverse file s w) (toZ-pos w64 (start .args .station) (cast-inverse-of test .sfits)) (wide offset (start .fits .offset)))
+      ∙ ap fromInverse (c .before .inverse .ensures .0 ∙ ap₂ (λ (s w : ℤ). inverse crest s w) (toZ-pos w64 (start .args .station) (cast-inverse test .sfits)) (wide offset (start .fits .offset)))
 
 send-requires : tie.Need-send-requires
-send-requires c κs = let r = c .before in same-sendable (test r .if1 .left) (reply r) (inverse-sendable (file r) (station r) (offset r))
+send-requires c κs = let r = c .before in same-sendable (test r .if1 .left) (reply r) (inverse-sendable (crest r) (file-sound _) (station r) (offset r))
 
 same-length : tie.Need-same-length
 same-length c = search needs
@@ -63,16 +63,16 @@ returns-2 : tie.Need-returns-2
 returns-2 c =
     let m = c .before .before in
     let r = m .before .before in
-    sent-as (now (start r .args .out)) (m .send .ensures .0) (m .send .ensures .1) (reply r) ∙ sym (inverse-call-sent (file r) (now (start r .args .out)) (test r .if1 .left) (station r) (offset r))
+    sent-as (now (start r .args .out)) (m .send .ensures .0) (m .send .ensures .1) (reply r) ∙ sym (inverse-call-sent (crest r) (now (start r .args .out)) (test r .if1 .left) (station r) (offset r))
 
 pub probe-inverse-spec : {M : Type 1} → statement M
 probe-inverse-spec =
     tie.close
     (tie.spec
     returns
-    cast-inverse-of
-    cast-inverse-of-2
-    inverse-of-requires
+    cast-inverse
+    cast-inverse-2
+    inverse-requires
     from-inverse-requires
     send-requires
     same-length

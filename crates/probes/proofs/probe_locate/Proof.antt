@@ -1,12 +1,12 @@
 -- `probes::probe_locate` meets its contract: the room first, then the point on the crest's bytes.
-use mathlib.Core.List.{List}
 use mathlib.Core.Path.{_≡_, sym, ap, _∙_, subst}
-use Prim.Native.Nat.{ℕ}
 use denote.Ref.{now}
 use Rattle.model.specs.declared.Point.{Point}
 use Rattle.model.specs.declared.Located.{Located}
+use Rattle.model.specs.Crest.{Crest, fileCrest}
 use Rattle.model.specs.Answers.{located}
 use Rattle.codes.proofs.Widths.{as-came}
+use Rattle.sources.proofs.Sound.{file-sound}
 use Rattle.probes.specs.Replies.{fromLocated, Sendable}
 use Rattle.probes.proofs.Rooms.{locate-18, locate-call-sent, sent-as}
 use Rattle.probes.proofs.Sent.{same-sendable, located-sendable}
@@ -17,37 +17,37 @@ use Rattle.probes.proofs.probe_locate.Tie as tie
 returns : tie.Need-returns
 returns c =
     let a = c .before .before .before .args in
-    sym (locate-18 (now (a .file)) (now (a .out)) (c .if1 .taken) (record { x = a .x; y = a .y }))
+    sym (locate-18 (fileCrest (now (a .file))) (now (a .out)) (c .if1 .taken) (record { x = a .x; y = a .y }))
 
 point-requires : tie.Need-point-requires
 point-requires c κs = search needs
 
-located-requires : tie.Need-located-requires
-located-requires c κs = search needs
+locate-requires : tie.Need-locate-requires
+locate-requires c κs = search needs
 
-module _ (c : tie.After-located) where
+module _ (c : tie.After-locate) where
   abbrev start : tie.Start
   start = c .before .before .before .before .before
 
-  abbrev file : List ℕ
-  file = now (start .args .file)
+  abbrev crest : Crest
+  crest = fileCrest (now (start .args .file))
 
   abbrev q : Point
   q = record { x = start .args .x; y = start .args .y }
 
-  answered : c .located .result ≡ located file q
-  answered = c .located .ensures ∙ ap (located file) (as-came (start .fits .x) (start .fits .y) (c .before .point .ensures))
+  answered : c .locate .result ≡ located crest q
+  answered = c .locate .ensures .0 ∙ ap (located crest) (as-came (start .fits .x) (start .fits .y) (c .before .point .ensures))
 
 from-located-requires : tie.Need-from-located-requires
-from-located-requires c κs = subst (λ (a : Located). Sendable 16 (fromLocated a)) (sym (answered c)) (located-sendable (file c) (q c))
+from-located-requires c κs = subst (λ (a : Located). Sendable 16 (fromLocated a)) (sym (answered c)) (located-sendable (crest c) (file-sound _) (q c))
 
-reply : (c : tie.After-from-located) → c .from-located .result ≡ fromLocated (located (file (c .before)) (q (c .before)))
+reply : (c : tie.After-from-located) → c .from-located .result ≡ fromLocated (located (crest (c .before)) (q (c .before)))
 reply c = c .from-located .ensures ∙ ap fromLocated (answered (c .before))
 
 send-requires : tie.Need-send-requires
 send-requires c κs =
     let k = c .before .before in
-    same-sendable (k .before .before .if1 .left) (reply (c .before)) (located-sendable (file k) (q k))
+    same-sendable (k .before .before .if1 .left) (reply (c .before)) (located-sendable (crest k) (file-sound _) (q k))
 
 same-length : tie.Need-same-length
 same-length c = search needs
@@ -57,7 +57,7 @@ returns-2 c =
     let m = c .before .before in
     let r = m .before .before in
     let k = r .before in
-    sent-as (now (start k .args .out)) (m .send .ensures .0) (m .send .ensures .1) (reply r) ∙ sym (locate-call-sent (file k) (now (start k .args .out)) (k .before .before .if1 .left) (q k))
+    sent-as (now (start k .args .out)) (m .send .ensures .0) (m .send .ensures .1) (reply r) ∙ sym (locate-call-sent (crest k) (now (start k .args .out)) (k .before .before .if1 .left) (q k))
 
 pub probe-locate-spec : {M : Type 1} → statement M
 probe-locate-spec =
@@ -65,7 +65,7 @@ probe-locate-spec =
     (tie.spec
     returns
     point-requires
-    located-requires
+    locate-requires
     from-located-requires
     send-requires
     same-length

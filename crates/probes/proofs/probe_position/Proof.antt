@@ -1,12 +1,12 @@
 -- `probes::probe_position` meets its contract: the room first, then the station on the crest's bytes.
-use mathlib.Core.List.{List}
 use mathlib.Core.Path.{_≡_, sym, ap, _∙_}
-use Prim.Native.Nat.{ℕ}
 use lib.IntN.{ℤ, pos}
 use mir.Syntax.{w64}
 use mir.ValLaws.{toZ-pos}
 use denote.Ref.{now}
+use Rattle.model.specs.Crest.{Crest, fileCrest}
 use Rattle.model.specs.Answers.{placed}
+use Rattle.sources.proofs.Sound.{file-sound}
 use Rattle.probes.specs.Replies.{fromPlaced}
 use Rattle.probes.proofs.Rooms.{position-18, position-call-sent, sent-as}
 use Rattle.probes.proofs.Sent.{same-sendable, placed-sendable}
@@ -17,13 +17,13 @@ use Rattle.probes.proofs.probe_position.Tie as tie
 returns : tie.Need-returns
 returns c =
     let a = c .before .before .before .args in
-    sym (position-18 (now (a .file)) (now (a .out)) (c .if1 .taken) (pos (a .station)))
+    sym (position-18 (fileCrest (now (a .file))) (now (a .out)) (c .if1 .taken) (pos (a .station)))
 
-cast-placed : tie.Need-cast-placed
-cast-placed c = search needs
+cast-position : tie.Need-cast-position
+cast-position c = search needs
 
-placed-requires : tie.Need-placed-requires
-placed-requires c κs = search needs
+position-requires : tie.Need-position-requires
+position-requires c κs = search needs
 
 from-placed-requires : tie.Need-from-placed-requires
 from-placed-requires c κs = search needs
@@ -35,17 +35,17 @@ module _ (c : tie.After-from-placed) where
   abbrev start : tie.Start
   start = test .before .before .before
 
-  abbrev file : List ℕ
-  file = now (start .args .file)
+  abbrev crest : Crest
+  crest = fileCrest (now (start .args .file))
 
   abbrev station : ℤ
   station = pos (start .args .station)
 
-  reply : c .from-placed .result ≡ fromPlaced (placed file station)
-  reply = c .from-placed .ensures ∙ ap fromPlaced (c .before .placed .ensures ∙ ap (placed file) (toZ-pos w64 (start .args .station) (cast-placed test .sfits)))
+  reply : c .from-placed .result ≡ fromPlaced (placed crest station)
+  reply = c .from-placed .ensures ∙ ap fromPlaced (c .before .position .ensures .0 ∙ ap (placed crest) (toZ-pos w64 (start .args .station) (cast-position test .sfits)))
 
 send-requires : tie.Need-send-requires
-send-requires c κs = let r = c .before in same-sendable (test r .if1 .left) (reply r) (placed-sendable (file r) (station r))
+send-requires c κs = let r = c .before in same-sendable (test r .if1 .left) (reply r) (placed-sendable (crest r) (file-sound _) (station r))
 
 same-length : tie.Need-same-length
 same-length c = search needs
@@ -54,15 +54,15 @@ returns-2 : tie.Need-returns-2
 returns-2 c =
     let m = c .before .before in
     let r = m .before .before in
-    sent-as (now (start r .args .out)) (m .send .ensures .0) (m .send .ensures .1) (reply r) ∙ sym (position-call-sent (file r) (now (start r .args .out)) (test r .if1 .left) (station r))
+    sent-as (now (start r .args .out)) (m .send .ensures .0) (m .send .ensures .1) (reply r) ∙ sym (position-call-sent (crest r) (now (start r .args .out)) (test r .if1 .left) (station r))
 
 pub probe-position-spec : {M : Type 1} → statement M
 probe-position-spec =
     tie.close
     (tie.spec
     returns
-    cast-placed
-    placed-requires
+    cast-position
+    position-requires
     from-placed-requires
     send-requires
     same-length

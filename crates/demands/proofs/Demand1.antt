@@ -1,5 +1,6 @@
--- Demand 1: "Any bytes, any reading, any order of calls end in an answer or a numbered refusal; a refusal carries no numbers and changes no lent room but the run
--- record, which shows the latest counted reading only and keeps the first counted refusal since the last acknowledgement."
+-- Demand 1: "Any bytes, any reading and any order of calls end in an answer or in a numbered refusal from the table. A refusal carries no station, offset or point, and lent
+-- room other than the run record stays as it came. The run record shows the outcome of the latest counted reading only, and keeps the first counted refusal since the last
+-- acknowledgement."
 use Prim.Native.Nat.{ℕ, _+_, _*_, _≤_}
 use mathlib.Core.Bool.{Bool, true, false}
 use mathlib.Core.List.{List, [], _∷_, _++_}
@@ -23,40 +24,45 @@ use Rattle.model.specs.declared.Inverse.the-variants.{Refused as InverseRefused
 use Rattle.model.specs.declared.Move.{Move}
 use Rattle.model.specs.declared.Move.the-variants.{By, Refused as MoveRefused}
 use Rattle.model.specs.declared.Reading.{Reading}
-use Rattle.model.specs.declared.Reading.the-variants.{PlanePoint, LinePlace}
 use Rattle.model.specs.declared.ReadingAnswer.{ReadingAnswer}
 use Rattle.model.specs.declared.ReadingAnswer.the-variants.{PlanePoint as AnswerPoint, LinePlace as AnswerPlace, Refused as AnswerRefused}
-use Rattle.model.specs.Refusals.{Reason, askedOutOfRange, runFull, wrongRoom, Rule, number, refusal, rule₀, verdict}
-use Rattle.model.specs.Acceptance.{checked, crestRules, crestElements}
+use Rattle.model.specs.Refusals.{Reason, lastNumber, askedOutOfRange, runFull, wrongRoom, Rule, number, refusal, rule₀, verdict}
+use Rattle.model.specs.Acceptance.{checked, crestRules}
+use Rattle.model.specs.Crest.{Crest, checkOf, fileCrest, SoundCrest}
 use Rattle.model.specs.Judged.{judged}
 use Rattle.model.specs.Records.{byteAt, recordBytes, countOf}
-use Rattle.model.specs.Stations.{isStation}
 use Rattle.model.specs.Writer.{writerRules, writerOutcome, roomAfter, written}
-use Rattle.model.specs.Answers.{code, paperOfOutcome, paperOfPlaced, paperOfLocated, paperOfInverse, paperOfMove, readerOutcome, spanIf, readerSpan, readerPart, placed, pointRules, locatedAfter, located, lineRules, inverseAfter, inverse, moveOf, moveIf, moveRules, stakeOut}
-use Rattle.model.specs.Readings.{answerTo, answerAfter, numberRules, wholeOf, valueOf, paperOfReading, zeroFloat, displayOf}
-use Rattle.model.specs.Run.{shownOf, isFull, runAt, runBytes, counted, acknowledged, readingCall, acknowledgeCall, checkCall, writeCall, moveBytes, stakeOutCall}
-use Rattle.model.specs.Histories.{Call, read, acknowledge, afterCalls, bytesAfterCalls, freshBytes, demanded}
-use Rattle.model.proofs.Verdict.{reason-numbered, AllHold, more, Cause, crest-outcome, refused→first, refused-before, done→all, all→done}
-use Rattle.readings.proofs.Refused.{answer-number, Zeros, refusal-shows-zeros}
+use Rattle.model.specs.Answers.{code, paperOfOutcome, paperOfPlaced, paperOfLocated, paperOfInverse, paperOfMove, readerOutcome, spanIf, readerSpan, readerPart, stationRules, placedAfter, placed, pointRules, locatedAfter, located, lineRules, inverseAfter, inverse, moveOf, moveIf, moveRules, stakeOut}
+use Rattle.model.specs.Readings.{refusesReading, answerTo, valueCount, paperOfReading, zeroFloat, displayOf}
+use Rattle.model.specs.Run.{shownOf, isFull, runAt, runBytes, counted, acknowledged}
+use Rattle.model.specs.Calls.{readingCall, acknowledgeCall, checkCall, writeCall, moveBytes, stakeOutCall}
+use Rattle.model.specs.Histories.{Call, read, acknowledge, Came, reading, AllCame, none, asked, acknowledged-next, afterCalls, bytesAfterCalls, freshBytes, demanded}
+use Rattle.model.proofs.Verdict.{reason-numbered, AllHold, more, Cause, order-outcome, refused→first, refused-before, done→all, all→done}
+use Rattle.model.proofs.Answers as answers
+use Rattle.readings.specs.Stored.{Storable}
+use Rattle.readings.proofs.Refused.{refuses-within, AsRead, answer-number, answer-as-read, Zeros, refusal-shows-zeros}
 use Rattle.readings.proofs.Calls.{reading-18, reading-16, reading-counted, not-counted-unchanged, acknowledge-18, acknowledge-0}
-use Rattle.walk_laws.proofs.Outcomes.{located-refused}
-use Rattle.walk_laws.proofs.Crest.{located-refused-crest}
+use Rattle.walk_laws.proofs.Outcomes.{located-if-refused}
 use Rattle.blocks.proofs.Bytes.{AllBytes}
-use Rattle.answers.proofs.Storable.{answer-values}
-use Rattle.answers.proofs.Crest.{answer-refused}
-use Rattle.demands.proofs.Orders.{placed-refused, inverse-refused, move-refused, point-refused, place-refused}
+use Rattle.sources.proofs.Sound.{file-sound}
+use Rattle.answers.proofs.Storable.{answer-storable}
+use Rattle.demands.proofs.Orders.{placed-if-refused, inverse-if-refused, move-if-refused}
 use Rattle.demands.proofs.Histories.{ReadingsFit, bytes-spelled, bytes-follow-run, bytes-show-run, bytes-show-demanded, history-keeps, fresh-bytes-keep}
 use Rattle.demands.proofs.Lent.{Lending, Within, roomAfterAll, onRun, lent-history}
 
--- ---- "Any bytes .. end in an answer or a numbered refusal"
+-- ---- "Any bytes .. end in an answer or in a numbered refusal from the table."
 
--- a file is accepted where all rules hold, and else refused by the first that does not
+-- a crest is accepted where all its rules hold, and else refused by the first that does not; any bytes are a file's crest
+pub any-crest : (c : Crest) → (checkOf c ≡ Done × AllHold (c .rules)) ⊎ ((why : Refusal) × (checkOf c ≡ Refused why) × Cause (c .rules) why)
+any-crest c = order-outcome (c .rules)
+
 pub any-bytes : (file : List ℕ) → (checked file ≡ Done × AllHold (crestRules file)) ⊎ ((why : Refusal) × (checked file ≡ Refused why) × Cause (crestRules file) why)
-any-bytes = crest-outcome
+unfolding checked
+any-bytes file = any-crest (fileCrest file)
 
 -- whatever is refused has a number of the table
 abbrev pub Numbered : Refusal → Type 0
-Numbered why = (1 ≤ why .number) × (why .number ≤ 18)
+Numbered why = (1 ≤ why .number) × (why .number ≤ lastNumber)
 
 pub refused-numbered : (rs : List Rule) (why : Refusal) → verdict rs ≡ Refused why → Numbered why
 unfolding refusal
@@ -66,30 +72,15 @@ refused-numbered rs why e =
 
 -- ---- "any reading"
 
--- a reading is answered, or refused with a number from 1 to 15
-pub any-reading : (file : List ℕ) (r : Reading) (why : Refusal) → answerTo file r ≡ AnswerRefused why → (1 ≤ why .number) × (why .number ≤ 15)
-unfolding answerTo answerAfter locatedAfter inverseAfter shownOf
-any-reading file r why e = (least r e, subst (λ (a : ReadingAnswer). shownOf a .number ≤ 15) e (answer-number file r))
-  where
-    least : (r : Reading) → answerTo file r ≡ AnswerRefused why → 1 ≤ why .number
-    least (PlanePoint x y) e =
-        let es = crestElements file in
-        let p : Point = record { x = valueOf (wholeOf x); y = valueOf (wholeOf y) } in
-        let rules = (crestRules file ++ numberRules x y) ++ pointRules es p (judged es p) in
-        refused-numbered rules why (located-refused (verdict rules) es p (judged es p) why .0 (point-refused _ why .0 e)) .0
-    least (LinePlace station offset) e =
-        let es = crestElements file in
-        let s = valueOf (wholeOf station) in
-        let w = valueOf (wholeOf offset) in
-        let rules = (crestRules file ++ numberRules station offset) ++ lineRules es s w in
-        refused-numbered rules why (inverse-refused (verdict rules) es s w why .0 (place-refused _ why .0 e)) .0
+-- a reading on a crest of any source is answered, or refused with one of the crest's own numbers or of 10 to 15
+pub any-reading : (c : Crest) → SoundCrest c → (r : Reading) (why : Refusal) → answerTo c r ≡ AnswerRefused why → refusesReading (why .number) ≡ true
+any-reading c sound r why e = answer-number c sound r e
 
--- ---- "end in an answer or a numbered refusal": the other calls by value
+-- ---- the other calls by value
 
 -- the crest's own, the writer's and the reader's
-pub any-check : (file : List ℕ) (why : Refusal) → checked file ≡ Refused why → Numbered why
-unfolding checked
-any-check file = refused-numbered (crestRules file)
+pub any-check : (c : Crest) (why : Refusal) → checkOf c ≡ Refused why → Numbered why
+any-check c = refused-numbered (c .rules)
 
 pub any-write : (records : List ℕ) (room : ℕ) (why : Refusal) → writerOutcome records room ≡ Refused why → Numbered why
 unfolding writerOutcome
@@ -100,76 +91,84 @@ unfolding readerOutcome
 any-record file r = refused-numbered (crestRules file ++ (rule₀ askedOutOfRange (ltb r (countOf (recordBytes file))) ∷ []))
 
 -- a position, a plane point, a line place and a stake-out by value
-pub any-position : (file : List ℕ) (s : ℤ) (why : Refusal) → placed file s ≡ PlacedRefused why → Numbered why
-unfolding placed
-any-position file s why e =
-    let es = crestElements file in
-    let rules = crestRules file ++ (rule₀ askedOutOfRange (isStation es s) ∷ []) in
-    refused-numbered rules why (placed-refused (verdict rules) es (natAbs s) why .0 e)
+pub any-position : (c : Crest) (s : ℤ) (why : Refusal) → placed c s ≡ PlacedRefused why → Numbered why
+unfolding placed placedAfter
+any-position c s why e =
+    let rules = c .rules ++ stationRules (c .elements) s in
+    refused-numbered rules why (placed-if-refused (verdict rules) (c .elements) (natAbs s) why .0 e)
 
-pub any-point : (file : List ℕ) (p : Point) (why : Refusal) → located file p ≡ LocatedRefused why → Numbered why
+pub any-point : (c : Crest) (p : Point) (why : Refusal) → located c p ≡ LocatedRefused why → Numbered why
 unfolding located locatedAfter
-any-point file p why e =
-    let es = crestElements file in
-    let rules = crestRules file ++ pointRules es p (judged es p) in
-    refused-numbered rules why (located-refused (verdict rules) es p (judged es p) why .0 e)
+any-point c p why e =
+    let es = c .elements in
+    let rules = c .rules ++ pointRules es p (judged es p) in
+    refused-numbered rules why (located-if-refused (verdict rules) es p (judged es p) why .0 e)
 
-pub any-place : (file : List ℕ) (s w : ℤ) (why : Refusal) → inverse file s w ≡ InverseRefused why → Numbered why
+pub any-place : (c : Crest) (s w : ℤ) (why : Refusal) → inverse c s w ≡ InverseRefused why → Numbered why
 unfolding inverse inverseAfter
-any-place file s w why e =
-    let es = crestElements file in
-    let rules = crestRules file ++ lineRules es s w in
-    refused-numbered rules why (inverse-refused (verdict rules) es s w why .0 e)
+any-place c s w why e =
+    let rules = c .rules ++ lineRules (c .elements) s w in
+    refused-numbered rules why (inverse-if-refused (verdict rules) (c .elements) s w why .0 e)
 
 pub any-stake-out : (own target : Point) (c s : ℤ) (why : Refusal) → stakeOut own target c s ≡ MoveRefused why → Numbered why
 unfolding stakeOut
 any-stake-out own target c s why e =
     let rules = moveRules own target c s in
-    refused-numbered rules why (move-refused (verdict rules) own target c s why .0 e)
+    refused-numbered rules why (move-if-refused (verdict rules) own target c s why .0 e)
 
 -- ---- "Every entry checks the alignment it is given."
 
--- what refuses a file refuses every question about it, with the same number and place
-module _ (file : List ℕ) (why : Refusal) (refused : checked file ≡ Refused why) where
-  refused-first : (rs : List Rule) → verdict (crestRules file ++ rs) ≡ Refused why
-  unfolding checked
-  refused-first rs = refused-before (crestRules file) rs refused
+-- what refuses a crest refuses every question about it, with the same number and place
+module _ (c : Crest) (why : Refusal) (refused : checkOf c ≡ Refused why) where
+  pub refused-crest-position : (s : ℤ) → placed c s ≡ PlacedRefused why
+  refused-crest-position s = answers.placed-refused c s refused
 
-  pub refused-file-record : (r : ℕ) → readerOutcome file r ≡ Refused why
-  unfolding readerOutcome
-  refused-file-record r = refused-first _
+  pub refused-crest-point : (p : Point) → located c p ≡ LocatedRefused why
+  refused-crest-point p = answers.located-refused c p refused
 
-  pub refused-file-position : (s : ℤ) → placed file s ≡ PlacedRefused why
-  unfolding placed
-  refused-file-position s = placed-refused _ _ _ why .1 (refused-first _)
+  pub refused-crest-place : (s w : ℤ) → inverse c s w ≡ InverseRefused why
+  refused-crest-place s w = answers.inverse-refused c s w refused
 
-  pub refused-file-point : (p : Point) → located file p ≡ LocatedRefused why
-  refused-file-point p = located-refused-crest file p why refused
+  pub refused-crest-reading : (r : Reading) → answerTo c r ≡ AnswerRefused why
+  refused-crest-reading r = answers.answer-refused c r refused
 
-  pub refused-file-place : (s w : ℤ) → inverse file s w ≡ InverseRefused why
-  unfolding inverse inverseAfter
-  refused-file-place s w = inverse-refused _ _ s w why .1 (refused-first _)
+pub refused-file-record : (file : List ℕ) (why : Refusal) → checked file ≡ Refused why → (r : ℕ) → readerOutcome file r ≡ Refused why
+unfolding readerOutcome checked
+refused-file-record file why e r = refused-before (crestRules file) _ e
 
-  pub refused-file-reading : (r : Reading) → answerTo file r ≡ AnswerRefused why
-  refused-file-reading r = sym (answer-refused file r refused)
+-- ---- what a reading came to, whatever question and crest it was
+
+-- of a file
+pub file-came : (file : List ℕ) (r : Reading) → Came (answerTo (fileCrest file) r)
+file-came file r = reading (fileCrest file) (file-sound file) r
+
+-- its refusal has a number of the table
+pub came-numbered : {a : ReadingAnswer} → Came a → (why : Refusal) → a ≡ AnswerRefused why → Numbered why
+came-numbered (reading c sound r) why e = let n = refuses-within (why .number) (any-reading c sound r why e) in (n .0, omega (arith, n .1))
+
+-- that is no run's own
+pub came-as-read : {a : ReadingAnswer} → Came a → AsRead a
+came-as-read (reading c sound r) = answer-as-read c sound r
+
+-- and it fits the run record
+pub came-storable : {a : ReadingAnswer} → Came a → Storable (shownOf a)
+came-storable (reading c sound r) = answer-storable c sound r
 
 -- ---- "any order of calls": what each call returns and leaves, on any bytes
 
 -- "A reading is counted unless its run's bytes get 18, or answered + refused is already 65,535 or more; then it is refused with 16. Either changes nothing."
-pub data ReadingEnds (file : List ℕ) (r : Reading) (run : List ℕ) : Type 0 where
-  no-run : length run ≢ 24 → readingCall file r run ≡ (18, run) → ReadingEnds file r run
-  run-full : length run ≡ 24 → isFull (runAt run) ≡ true → readingCall file r run ≡ (16, run) → ReadingEnds file r run
-  counts : length run ≡ 24 → isFull (runAt run) ≡ false
-      → readingCall file r run ≡ (code (paperOfReading (answerTo file r)), runBytes (counted (shownOf (answerTo file r)) (runAt run)) run)
-      → ReadingEnds file r run
+pub data ReadingEnds (a : ReadingAnswer) (run : List ℕ) : Type 0 where
+  no-run : length run ≢ 24 → readingCall a run ≡ (18, run) → ReadingEnds a run
+  run-full : length run ≡ 24 → isFull (runAt run) ≡ true → readingCall a run ≡ (16, run) → ReadingEnds a run
+  counts : length run ≡ 24 → isFull (runAt run) ≡ false → readingCall a run ≡ (code (paperOfReading 0 a), runBytes (counted (shownOf a) (runAt run)) run) → ReadingEnds a run
 
-pub any-reading-call : (file : List ℕ) (r : Reading) (run : List ℕ) → ReadingEnds file r run
-any-reading-call file r run = go (ℕ-discrete (length run) 24) (isFull (runAt run)) refl
+pub any-reading-call : (a : ReadingAnswer) (run : List ℕ) → ReadingEnds a run
+any-reading-call a run = go (ℕ-discrete (length run) 24) (isFull (runAt run)) refl
   where
-    go : Dec (length run ≡ 24) → (b : Bool) → isFull (runAt run) ≡ b → ReadingEnds file r run
-    go (no h) b e = no-run h (reading-18 file r run h)
-    go (yes h) true e = run-full h e (reading-16 file r run h e)
-    go (yes h) false e = counts h e (reading-counted file r run h e)
+    go : Dec (length run ≡ 24) → (b : Bool) → isFull (runAt run) ≡ b → ReadingEnds a run
+    go (no h) b e = no-run h (reading-18 a run h)
+    go (yes h) true e = run-full h e (reading-16 a run h e)
+    go (yes h) false e = counts h e (reading-counted a run h e)
 
 -- "Acknowledging zeroes only the first number and reading.", of a run's bytes; others get 18
 abbrev pub AcknowledgeEnds : List ℕ → Type 0
@@ -182,7 +181,7 @@ any-acknowledge-call run = go (ℕ-discrete (length run) 24)
     go (yes h) = inr (h, acknowledge-0 run h)
     go (no h) = inl (h, acknowledge-18 run h)
 
--- ---- "end in an answer or a numbered refusal": "A C call returns the refusal number plus 256 times its place, or 0"
+-- ---- "end in an answer or in a numbered refusal from the table": "A C call returns the refusal number plus 256 times its place, or 0"
 
 abbrev pub Returned : ℕ → Type 0
 Returned n = (n ≡ 0) ⊎ ((why : Refusal) × Numbered why × (n ≡ why .number + 256 * why .place))
@@ -200,9 +199,9 @@ unfolding code paperOfMove paperOfOutcome moveIf moveOf
 move-code Done own target c s = refl
 move-code (Refused why) own target c s = refl
 
-pub any-check-call : (file : List ℕ) → Returned (checkCall file)
-unfolding checkCall checked
-any-check-call file = returned (crestRules file)
+pub any-check-call : (c : Crest) → Returned (checkCall c)
+unfolding checkCall
+any-check-call c = returned (c .rules)
 
 pub any-write-call : (records room : List ℕ) → Returned (writeCall records room .0)
 unfolding writeCall writerOutcome
@@ -219,24 +218,21 @@ number-returned : (why : Reason) → Returned (number why)
 unfolding refusal
 number-returned why = inr (refusal why 0, reason-numbered why, sym (add-zero (number why)))
 
-answer-returned : (file : List ℕ) (r : Reading) → Returned (code (paperOfReading (answerTo file r)))
+answer-returned : (a : ReadingAnswer) → ((why : Refusal) → a ≡ AnswerRefused why → Numbered why) → Returned (code (paperOfReading 0 a))
 unfolding code paperOfReading
-answer-returned file r = go (answerTo file r) (any-reading file r)
-  where
-    go : (a : ReadingAnswer) → ((why : Refusal) → a ≡ AnswerRefused why → (1 ≤ why .number) × (why .number ≤ 15)) → Returned (code (paperOfReading a))
-    go (AnswerPoint station offset residual visits) h = inl refl
-    go (AnswerPlace x y) h = inl refl
-    go (AnswerRefused why) h = let n = h why refl in inr (why, (n .0, omega arith), refl)
+answer-returned (AnswerPoint station offset residual visits) h = inl refl
+answer-returned (AnswerPlace x y) h = inl refl
+answer-returned (AnswerRefused why) h = inr (why, h why refl, refl)
 
 -- of any bytes lent as a run
-pub any-reading-call-returns : (file : List ℕ) (r : Reading) (run : List ℕ) → Returned (readingCall file r run .0)
+pub any-reading-call-returns : {a : ReadingAnswer} → Came a → (run : List ℕ) → Returned (readingCall a run .0)
 unfolding number
-any-reading-call-returns file r run = go (any-reading-call file r run)
+any-reading-call-returns {a} came run = go (any-reading-call a run)
   where
-    go : ReadingEnds file r run → Returned (readingCall file r run .0)
+    go : ReadingEnds a run → Returned (readingCall a run .0)
     go (no-run h e) = rw e (number-returned wrongRoom)
     go (run-full h f e) = rw e (number-returned runFull)
-    go (counts h f e) = rw e (answer-returned file r)
+    go (counts h f e) = rw e (answer-returned a (came-numbered came))
 
 pub any-acknowledge-call-returns : (run : List ℕ) → Returned (acknowledgeCall run .0)
 unfolding number
@@ -256,9 +252,9 @@ returns-0 rs = (go (verdict rs) (λ why e. refused-numbered rs why e .0), λ e. 
     go Done least e = refl
     go (Refused why) least e = absurd (omega (arith, least why refl, e))
 
-pub check-returns-0 : (file : List ℕ) → (checkCall file ≡ 0) ↔ (checked file ≡ Done)
-unfolding checkCall checked
-check-returns-0 file = returns-0 (crestRules file)
+pub check-returns-0 : (c : Crest) → (checkCall c ≡ 0) ↔ (checkOf c ≡ Done)
+unfolding checkCall
+check-returns-0 c = returns-0 (c .rules)
 
 pub write-returns-0 : (records room : List ℕ) → (writeCall records room .0 ≡ 0) ↔ (writerOutcome records (length room) ≡ Done)
 unfolding writeCall writerOutcome
@@ -286,28 +282,28 @@ stake-out-returns-0 own target c s room = (
     answered (more h a) = (eqb-true (length room) 8 h, ap (λ (o : Outcome). moveIf o own target c s) (all→done a))
 
 -- a reading that is refused does not return 0
-pub refused-reading-returns : (file : List ℕ) (r : Reading) (why : Refusal) → answerTo file r ≡ AnswerRefused why → code (paperOfReading (answerTo file r)) ≡ 0 → ⊥
+pub refused-reading-returns : {a : ReadingAnswer} → Came a → (why : Refusal) → a ≡ AnswerRefused why → code (paperOfReading 0 a) ≡ 0 → ⊥
 unfolding code paperOfReading
-refused-reading-returns file r why e z = omega (arith, any-reading file r why e .0, sym (ap (λ (a : ReadingAnswer). code (paperOfReading a)) e) ∙ z)
+refused-reading-returns came why e z = omega (arith, came-numbered came why e .0, sym (ap (λ (x : ReadingAnswer). code (paperOfReading 0 x)) e) ∙ z)
 
 -- where 24 bytes are lent, the run is not full and the reading is answered
-pub reading-returns-0 : (file : List ℕ) (r : Reading) (run : List ℕ) →
-    (readingCall file r run .0 ≡ 0) ↔ ((length run ≡ 24) × (isFull (runAt run) ≡ false) × ((why : Refusal) → answerTo file r ≢ AnswerRefused why))
+pub reading-returns-0 : {a : ReadingAnswer} → Came a → (run : List ℕ) →
+    (readingCall a run .0 ≡ 0) ↔ ((length run ≡ 24) × (isFull (runAt run) ≡ false) × ((why : Refusal) → a ≢ AnswerRefused why))
 unfolding code paperOfReading
-reading-returns-0 file r run = (
-  go (any-reading-call file r run),
-  λ x. ap (λ o. o .0) (reading-counted file r run (x .0) (x .1)) ∙ answered (answerTo file r) (x .2),
+reading-returns-0 {a} came run = (
+  go (any-reading-call a run),
+  λ x. ap (λ o. o .0) (reading-counted a run (x .0) (x .1)) ∙ answered a (x .2),
 )
   where
-    answered : (a : ReadingAnswer) → ((why : Refusal) → a ≢ AnswerRefused why) → code (paperOfReading a) ≡ 0
+    answered : (a : ReadingAnswer) → ((why : Refusal) → a ≢ AnswerRefused why) → code (paperOfReading 0 a) ≡ 0
     answered (AnswerPoint station offset residual visits) h = refl
     answered (AnswerPlace x y) h = refl
     answered (AnswerRefused why) h = absurd (h why refl)
 
-    go : ReadingEnds file r run → readingCall file r run .0 ≡ 0 → (length run ≡ 24) × (isFull (runAt run) ≡ false) × ((why : Refusal) → answerTo file r ≢ AnswerRefused why)
+    go : ReadingEnds a run → readingCall a run .0 ≡ 0 → (length run ≡ 24) × (isFull (runAt run) ≡ false) × ((why : Refusal) → a ≢ AnswerRefused why)
     go (no-run h e) z = absurd (omega (arith, ap (λ o. o .0) e))
     go (run-full h f e) z = absurd (omega (arith, ap (λ o. o .0) e))
-    go (counts h f e) z = (h, f, λ why a. refused-reading-returns file r why a (sym (ap (λ o. o .0) e) ∙ z))
+    go (counts h f e) z = (h, f, λ why x. refused-reading-returns came why x (sym (ap (λ o. o .0) e) ∙ z))
 
 pub acknowledge-returns-0 : (run : List ℕ) → (acknowledgeCall run .0 ≡ 0) ↔ (length run ≡ 24)
 acknowledge-returns-0 run = (go (any-acknowledge-call run), λ h. ap (λ o. o .0) (acknowledge-0 run h))
@@ -316,14 +312,18 @@ acknowledge-returns-0 run = (go (any-acknowledge-call run), λ h. ap (λ o. o .0
     go (inl (h, e)) z = absurd (omega (arith, ap (λ o. o .0) e))
     go (inr (h, e)) z = h
 
--- ---- "a refusal carries no numbers"
+-- ---- "A refusal carries no station, offset or point"
 
 -- "all other numbers zero": of each answer by value
 pub refused-values : (why : Refusal) → (paperOfPlaced (PlacedRefused why) .values ≡ replicate 4 (pos 0)) × (paperOfLocated (LocatedRefused why) .values ≡ replicate 4 (pos 0))
     × (paperOfInverse (InverseRefused why) .values ≡ replicate 2 (pos 0)) × (paperOfMove (MoveRefused why) .values ≡ replicate 2 (pos 0))
-    × (paperOfReading (AnswerRefused why) .values ≡ replicate 4 (pos 0))
-unfolding paperOfPlaced paperOfLocated paperOfInverse paperOfMove paperOfReading
-refused-values why = (refl, refl, refl, refl, refl)
+unfolding paperOfPlaced paperOfLocated paperOfInverse paperOfMove
+refused-values why = (refl, refl, refl, refl)
+
+-- of a reading: as many zeros as its question has values
+pub refused-reading-values : (r : Reading) (why : Refusal) → paperOfReading (valueCount r) (AnswerRefused why) .values ≡ replicate (valueCount r) (pos 0)
+unfolding paperOfReading
+refused-reading-values r why = refl
 
 -- "It goes with a plane point's answer; else both are 0.0."
 pub refused-display : (why : Refusal) → displayOf (AnswerRefused why) ≡ record { station = zeroFloat; offset = zeroFloat }
@@ -335,10 +335,10 @@ pub refused-part : (file : List ℕ) (r : ℕ) (why : Refusal) → readerOutcome
 unfolding readerPart readerSpan spanIf
 refused-part file r why e = rw e
 
-pub refused-no-numbers : (file : List ℕ) (r : Reading) → (shownOf (answerTo file r) .number ≡ 0 → ⊥) → Zeros (shownOf (answerTo file r))
-refused-no-numbers file r = refusal-shows-zeros (answerTo file r)
+pub refused-no-numbers : (a : ReadingAnswer) → (shownOf a .number ≡ 0 → ⊥) → Zeros (shownOf a)
+refused-no-numbers = refusal-shows-zeros
 
--- ---- "and changes no lent room but the run record"
+-- ---- "and lent room other than the run record stays as it came"
 
 pub refused-write-unchanged : (records room : List ℕ) → (writeCall records room .0 ≡ 0 → ⊥) → writeCall records room .1 ≡ room
 unfolding writeCall written roomAfter code paperOfOutcome
@@ -357,19 +357,37 @@ refused-stake-out-unchanged own target c s room = go (moveIf (verdict (rule₀ w
     go (MoveRefused why) h = refl
 
 -- of a run, what is not counted changes nothing
-pub not-counted : (file : List ℕ) (r : Reading) (run : List ℕ) → (readingCall file r run .0 ≡ 16) ⊎ (readingCall file r run .0 ≡ 18) → readingCall file r run .1 ≡ run
-not-counted = not-counted-unchanged
+pub not-counted : {a : ReadingAnswer} → Came a → (run : List ℕ) → (readingCall a run .0 ≡ 16) ⊎ (readingCall a run .0 ≡ 18) → readingCall a run .1 ≡ run
+not-counted {a} came run = not-counted-unchanged a run (came-as-read came)
 
--- ---- "the run record, which shows the latest counted reading only and keeps the first counted refusal since the last acknowledgement"
+-- ---- "The run record shows the outcome of the latest counted reading only, and keeps the first counted refusal since the last acknowledgement."
 
-every-fits : (cs : List Call) → ReadingsFit cs
-every-fits [] = tt
-every-fits (read file r ∷ cs) = (answer-values file r, every-fits cs)
-every-fits (acknowledge ∷ cs) = (tt, every-fits cs)
+every-fits : {cs : List Call} → AllCame cs → ReadingsFit cs
+every-fits none = tt
+every-fits (asked came rest) = (came-storable came, every-fits rest)
+every-fits (acknowledged-next rest) = (tt, every-fits rest)
 
 -- after every history of calls the bytes of a run that began fresh show what `demanded` says
-pub fresh-bytes-show-demanded : (cs : List Call) → runAt (bytesAfterCalls cs freshBytes) ≡ demanded cs
-fresh-bytes-show-demanded cs = bytes-show-demanded cs (every-fits cs)
+pub fresh-bytes-show-demanded : {cs : List Call} → AllCame cs → runAt (bytesAfterCalls cs freshBytes) ≡ demanded cs
+fresh-bytes-show-demanded {cs} came = bytes-show-demanded cs (every-fits came)
+
+-- so of readings on crest files, whatever their bytes, and acknowledgements, in any order
+pub data FileCall : Type 0 where
+  read-file : List ℕ → Reading → FileCall
+  acknowledge-run : FileCall
+
+abbrev pub callsOf : List FileCall → List Call
+callsOf [] = []
+callsOf (read-file file r ∷ cs) = read (answerTo (fileCrest file) r) ∷ callsOf cs
+callsOf (acknowledge-run ∷ cs) = acknowledge ∷ callsOf cs
+
+pub files-came : (cs : List FileCall) → AllCame (callsOf cs)
+files-came [] = none
+files-came (read-file file r ∷ cs) = asked (file-came file r) (files-came cs)
+files-came (acknowledge-run ∷ cs) = acknowledged-next (files-came cs)
+
+pub file-bytes-show-demanded : (cs : List FileCall) → runAt (bytesAfterCalls (callsOf cs) freshBytes) ≡ demanded (callsOf cs)
+file-bytes-show-demanded cs = fresh-bytes-show-demanded (files-came cs)
 
 -- and its field of zero stays zero
 pub fresh-zero-stays : (cs : List Call) → (byteAt (bytesAfterCalls cs freshBytes) 10 ≡ 0) × (byteAt (bytesAfterCalls cs freshBytes) 11 ≡ 0)
@@ -377,12 +395,12 @@ fresh-zero-stays cs = let k = fresh-bytes-keep cs in (k .1, k .2)
 
 -- "other bytes are taken as the state they spell, by the same rules": after every history of calls any 24 bytes hold the run that the calls make by value of the run
 -- that they spelled at first
-module _ (cs : List Call) (run : List ℕ) (long : length run ≡ 24) (b : AllBytes run) where
+module _ {cs : List Call} (came : AllCame cs) (run : List ℕ) (long : length run ≡ 24) (b : AllBytes run) where
   pub spelled-bytes-go-on : bytesAfterCalls cs run ≡ runBytes (afterCalls cs (runAt run)) run
-  spelled-bytes-go-on = bytes-follow-run cs run (bytes-spelled run long b) (every-fits cs) .written
+  spelled-bytes-go-on = bytes-follow-run cs run (bytes-spelled run long b) (every-fits came) .written
 
   pub spelled-run-goes-on : runAt (bytesAfterCalls cs run) ≡ afterCalls cs (runAt run)
-  spelled-run-goes-on = bytes-show-run cs run (bytes-spelled run long b) (every-fits cs)
+  spelled-run-goes-on = bytes-show-run cs run (bytes-spelled run long b) (every-fits came)
 
 -- "(the zero is neither read nor changed)": bytes 10 and 11 of any bytes are as they came
 pub zero-stays : (cs : List Call) (run : List ℕ) → (byteAt (bytesAfterCalls cs run) 10 ≡ byteAt run 10) × (byteAt (bytesAfterCalls cs run) 11 ≡ byteAt run 11)
@@ -395,5 +413,5 @@ module _ (cs : List Lending) (rest : List ℕ) (within : Within (length (freshBy
       let lent = lent-history cs (freshBytes ++ rest) (omega (arith, length-append freshBytes rest)) within in
       (lent .0 ∙ ap (bytesAfterCalls (onRun cs)) (take-append-seam freshBytes rest), lent .1 ∙ drop-append-seam freshBytes rest)
 
-  pub fresh-room-shows-demanded : runAt (take 24 (roomAfterAll cs (freshBytes ++ rest))) ≡ demanded (onRun cs)
-  fresh-room-shows-demanded = ap runAt (fresh-room-bytes .0) ∙ fresh-bytes-show-demanded (onRun cs)
+  pub fresh-room-shows-demanded : AllCame (onRun cs) → runAt (take 24 (roomAfterAll cs (freshBytes ++ rest))) ≡ demanded (onRun cs)
+  fresh-room-shows-demanded came = ap runAt (fresh-room-bytes .0) ∙ fresh-bytes-show-demanded came

@@ -1,4 +1,5 @@
--- Demand 2: "All numbers are exactly document 01's; positions lie within the bound of the series sum; a written file reads back, and a crest has one file only."
+-- Demand 2: "Position, direction, station, offset, inverse point and stake-out move are exactly the numbers that document 01 gives, and each position's distances along and
+-- across lie within its bound of the series sum. A crest file written from accepted records reads back as those records, and the file of a crest is the one file possible."
 -- Its first words are the functions' promises: each is an equation with the definition of its number.
 use Prim.Native.Nat.{ℕ, _<_, _≤_}
 use mathlib.Core.Bool.{true, false}
@@ -15,11 +16,14 @@ use Rattle.model.specs.Records.{byteAt, put, recordBytes, countOf, recordOf}
 use Rattle.model.specs.Refusals.{verdict, orRefused}
 use Rattle.model.specs.Bound.{Bounded}
 use Rattle.model.specs.Acceptance.{sumsAgree, checked, crestRules, crestElements}
-use Rattle.model.specs.Accepted.{Accepted}
+use Rattle.model.specs.Accepted.{Accepted, AlignmentAccepted}
+use Rattle.model.specs.Crest.{Crest, checkOf, SoundCrest}
+use Rattle.model.specs.Stations.{total, atStation}
 use Rattle.model.specs.Writer.{fileOf, writerOutcome, roomAfter, written}
 use Rattle.model.specs.Answers.{readerOutcome, spanIf, readerSpan, readerPart}
 use Rattle.model.proofs.Verdict.{verdict-after}
 use Rattle.elements.proofs.Bound as bound
+use Rattle.stations.proofs.StationAt.{at-reachable}
 use Rattle.blocks.proofs.Bytes.{AllBytes}
 use Rattle.demands.proofs.WrittenThenRead as writing
 use Rattle.crestfile.proofs.WriterRules.{writer-done}
@@ -29,12 +33,21 @@ use Rattle.demands.proofs.WrittenBytes as bytes
 use Rattle.demands.proofs.ElementBytes.{elementsBytes, records-of-elements}
 use Rattle.demands.proofs.SingleByte as changed
 
--- ---- "positions lie within the bound of the series sum"
+-- ---- "each position's distances along and across lie within its bound of the series sum"
 
+-- on an accepted element
 pub bounded : (e : Element) → Accepted e → (s : ℕ) → s ≤ e .length → Bounded e s
 bounded = bound.bounded
 
--- ---- "a written file reads back"
+-- at every station of an accepted alignment, on the element there
+pub bounded-at : (es : List Element) → AlignmentAccepted es → (s : ℕ) → s ≤ total es → let at = atStation es s in Bounded (at .element) (at .s)
+bounded-at es a s h = let g = at-reachable es s (a .some) (a .each) h in bounded _ (g .accepted) _ (g .within)
+
+-- so of an accepted crest of any source
+pub crest-bounded-at : (c : Crest) → SoundCrest c → checkOf c ≡ Done → (s : ℕ) → s ≤ total (c .elements) → let at = atStation (c .elements) s in Bounded (at .element) (at .s)
+crest-bounded-at c sound e s h = bounded-at (c .elements) (sound .accepted e) s h
+
+-- ---- "A crest file written from accepted records reads back as those records"
 
 -- where the writer refuses nothing, what it leaves in the room starts with a file that is accepted and holds the records given
 pub written-reads-back : (records : List ℕ) (room : ℕ) → writerOutcome records room ≡ Done → (checked (fileOf records) ≡ Done) × (recordBytes (fileOf records) ≡ records)
@@ -66,7 +79,7 @@ module _ (records room : List ℕ) (done : writerOutcome records (length room) �
       let outcome : readerOutcome file r ≡ Done = verdict-after (crestRules file) _ accepted ∙ rw (same, lt-ltb r (countOf records) h) in
       (outcome, rw outcome (record-part file r accepted (rw same h) .0 ∙ ap (λ (l : List ℕ). recordOf l r) same))
 
--- ---- "and a crest has one file only"
+-- ---- "and the file of a crest is the one file possible"
 
 -- two accepted files with the same records are the same bytes
 pub one-file : (file other : List ℕ) → AllBytes file → AllBytes other → checked file ≡ Done → checked other ≡ Done → recordBytes file ≡ recordBytes other → file ≡ other

@@ -16,10 +16,9 @@ use Rattle.model.specs.declared.KindByte.the-variants.{Damaged, Later}
 use Rattle.model.specs.declared.Element.{Element}
 use Rattle.model.specs.declared.Outcome.the-variants.{Done}
 use Rattle.model.specs.Kinds.{decide}
-use Rattle.model.specs.Records.{part, u32Bytes, recordBytes, recordStart, countOf, recordOf}
-use Rattle.model.specs.Run.{i32Bytes}
+use Rattle.model.specs.Records.{part, u32Bytes, recordBytes, recordStart, countOf, recordOf, i32Bytes}
 use Rattle.model.specs.Refusals.{Rule, forEach}
-use Rattle.model.specs.Acceptance.{isDamaged, isLater, kindIn, elementOf, reservedZero, recordRules, elementAt, recordsRules, checked, elementsFrom, elementsOf, crestElements}
+use Rattle.model.specs.Acceptance.{isDamaged, isLater, kindIn, elementOf, reservedZero, recordRules, elementAt, eachRecord, recordsRules, checked, elementsFrom, elementsOf, crestElements}
 use Rattle.model.proofs.Verdict.{AllHold, more}
 use Rattle.blocks.proofs.Bytes.{AllBytes, part-bytes}
 use Rattle.blocks.proofs.BlockRules.{part-zero}
@@ -109,7 +108,7 @@ each-same (suc n) r bytes h =
 
 -- The records of an accepted file are those of its elements.
 pub records-of-elements : (file : List ℕ) → AllBytes file → checked file ≡ Done → elementsBytes (crestElements file) ≡ recordBytes file
-unfolding crestElements elementsOf recordsRules elementAt
+unfolding crestElements elementsOf recordsRules eachRecord elementAt
 records-of-elements file b e =
     let (crest, rules) = accepted→crest file e in
     let fits = count-fits (length bytes) .0 (crest-count crest .0) in

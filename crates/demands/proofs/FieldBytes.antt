@@ -10,8 +10,7 @@ use lib.IntN.{ℤ}
 use mir.Syntax.{w32}
 use mir.Val.{SFits, toZ, ofZ}
 use mir.ValLaws.{toZ-ofZ, ofZ-toZ, ofZ-fits}
-use Rattle.model.specs.Records.{u16Bytes, u32Bytes}
-use Rattle.model.specs.Run.{i32Bytes}
+use Rattle.model.specs.Records.{u16Bytes, u32Bytes, i32Bytes}
 
 -- ---- a list written out
 

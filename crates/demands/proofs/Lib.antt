@@ -22,4 +22,5 @@ pub mod Demand2
 pub mod Demand3
 -- When each number of the table is given.
 pub mod RefusalTable
+pub mod ReadingRefusals
 pub mod NoPlace

@@ -1,6 +1,6 @@
--- From the outcome of an order of refusals to the answer: an answer is a refusal exactly when the order's outcome is, and after the crest's own rules, whose numbers
--- end at 9, a rule that alone gives its number is the first to fail exactly when that number is given.
-use Prim.Native.Nat.{ℕ, _<_}
+-- From the outcome of an order of refusals to the answer: an answer is a refusal exactly when the order's outcome is, and after a crest's own rules, whatever its source,
+-- a rule that alone gives its number is the first to fail exactly when that number is given.
+use Prim.Native.Nat.{ℕ}
 use mathlib.Core.Bool.{Bool, true, false, _&&_, false≢true}
 use mathlib.Core.List.{List, [], _∷_, _++_, append-assoc}
 use mathlib.Core.Logic.{_⊎_, inl, inr, _↔_, Iff·trans}
@@ -19,14 +19,13 @@ use Rattle.model.specs.declared.Inverse.{Inverse}
 use Rattle.model.specs.declared.Inverse.the-variants.{At as InverseAt, Refused as InverseRefused}
 use Rattle.model.specs.declared.Move.the-variants.{Refused as MoveRefused}
 use Rattle.model.specs.declared.ReadingAnswer.the-variants.{Refused as AnswerRefused}
-use Rattle.model.specs.Refusals.{Reason, Rule, number, refusal, rule, orRefused, verdict}
-use Rattle.model.specs.Acceptance.{checked, crestRules}
+use Rattle.model.specs.Refusals.{Reason, Rule, number, refusal, rule, Gives, orRefused, verdict}
+use Rattle.model.specs.Crest.{Crest, checkOf, isOwn}
 use Rattle.model.specs.Answers.{placedIf, inverseIf, moveOf, moveIf}
 use Rattle.model.specs.Readings.{fromLocated, fromInverse}
 use Rattle.model.proofs.Verdict.{AllHold, none, done→all, all→done}
-use Rattle.model.proofs.RuleNumbers.{crest-up-to-9}
 use Rattle.crestfile.proofs.ForEach.{all-append, append-all}
-use Rattle.walk_laws.proofs.Reasons.{Lacks, empty, lacks-++, lacks-above, given-exactly}
+use Rattle.walk_laws.proofs.Reasons.{Lacks, empty, lacks-++, lacks-other, given-exactly}
 
 -- ---- tests
 
@@ -40,20 +39,20 @@ and-fails false b = ((λ e. inl refl), (λ e. refl))
 
 -- ---- the answer is refused exactly when the outcome of its order is
 
-pub placed-refused : (o : Outcome) (es : List Element) (s : ℕ) (w : Refusal) → (placedIf o es s ≡ PlacedRefused w) ↔ (o ≡ Refused w)
+pub placed-if-refused : (o : Outcome) (es : List Element) (s : ℕ) (w : Refusal) → (placedIf o es s ≡ PlacedRefused w) ↔ (o ≡ Refused w)
 unfolding placedIf
-placed-refused Done es s w = ((λ e. let z : _≡_ {A = ℕ} 0 1 = cc in absurd (omega arith)), (λ e. let z : _≡_ {A = ℕ} 0 1 = cc in absurd (omega arith)))
-placed-refused (Refused r) es s w = ((λ e. cc), (λ e. cc))
+placed-if-refused Done es s w = ((λ e. let z : _≡_ {A = ℕ} 0 1 = cc in absurd (omega arith)), (λ e. let z : _≡_ {A = ℕ} 0 1 = cc in absurd (omega arith)))
+placed-if-refused (Refused r) es s w = ((λ e. cc), (λ e. cc))
 
-pub inverse-refused : (o : Outcome) (es : List Element) (s w : ℤ) (why : Refusal) → (inverseIf o es s w ≡ InverseRefused why) ↔ (o ≡ Refused why)
+pub inverse-if-refused : (o : Outcome) (es : List Element) (s w : ℤ) (why : Refusal) → (inverseIf o es s w ≡ InverseRefused why) ↔ (o ≡ Refused why)
 unfolding inverseIf
-inverse-refused Done es s w why = ((λ e. let z : _≡_ {A = ℕ} 0 1 = cc in absurd (omega arith)), (λ e. let z : _≡_ {A = ℕ} 0 1 = cc in absurd (omega arith)))
-inverse-refused (Refused r) es s w why = ((λ e. cc), (λ e. cc))
+inverse-if-refused Done es s w why = ((λ e. let z : _≡_ {A = ℕ} 0 1 = cc in absurd (omega arith)), (λ e. let z : _≡_ {A = ℕ} 0 1 = cc in absurd (omega arith)))
+inverse-if-refused (Refused r) es s w why = ((λ e. cc), (λ e. cc))
 
-pub move-refused : (o : Outcome) (own target : Point) (c s : ℤ) (w : Refusal) → (moveIf o own target c s ≡ MoveRefused w) ↔ (o ≡ Refused w)
+pub move-if-refused : (o : Outcome) (own target : Point) (c s : ℤ) (w : Refusal) → (moveIf o own target c s ≡ MoveRefused w) ↔ (o ≡ Refused w)
 unfolding moveIf moveOf
-move-refused Done own target c s w = ((λ e. let z : _≡_ {A = ℕ} 0 1 = cc in absurd (omega arith)), (λ e. let z : _≡_ {A = ℕ} 0 1 = cc in absurd (omega arith)))
-move-refused (Refused r) own target c s w = ((λ e. cc), (λ e. cc))
+move-if-refused Done own target c s w = ((λ e. let z : _≡_ {A = ℕ} 0 1 = cc in absurd (omega arith)), (λ e. let z : _≡_ {A = ℕ} 0 1 = cc in absurd (omega arith)))
+move-if-refused (Refused r) own target c s w = ((λ e. cc), (λ e. cc))
 
 -- a reading's answer, by that of its question
 pub point-refused : (l : Located) (w : Refusal) → (fromLocated l ≡ AnswerRefused w) ↔ (l ≡ LocatedRefused w)
@@ -89,13 +88,12 @@ module _ (r : Rule) (after : List Rule) (l : Lacks (number (r .why)) after) wher
         (λ x. (all-append (done→all own (x .0)) (x .1), x .2)),
       )
 
-  module _ (file : List ℕ) (high : 9 < number (r .why)) where
+  module _ (c : Crest) (own : Gives isOwn (c .rules)) (later : isOwn (number (r .why)) ≡ false) where
     -- after the crest's own rules, and others
     pub given-after-crest : (before : List Rule) → Lacks (number (r .why)) before →
-        (verdict (crestRules file ++ (before ++ (r ∷ after))) ≡ Refused (refusal (r .why) (r .place))) ↔ ((checked file ≡ Done) × AllHold before × (r .holds ≡ false))
-    unfolding checked
-    given-after-crest before k = given-after (crestRules file) before (lacks-above high (crest-up-to-9 file)) k
+        (verdict (c .rules ++ (before ++ (r ∷ after))) ≡ Refused (refusal (r .why) (r .place))) ↔ ((checkOf c ≡ Done) × AllHold before × (r .holds ≡ false))
+    given-after-crest before k = given-after (c .rules) before (lacks-other own later) k
 
     -- next after them
-    pub next-after-crest : (verdict (crestRules file ++ (r ∷ after)) ≡ Refused (refusal (r .why) (r .place))) ↔ ((checked file ≡ Done) × (r .holds ≡ false))
+    pub next-after-crest : (verdict (c .rules ++ (r ∷ after)) ≡ Refused (refusal (r .why) (r .place))) ↔ ((checkOf c ≡ Done) × (r .holds ≡ false))
     next-after-crest = Iff·trans (given-after-crest [] empty) ((λ x. (x .0, x .2)), (λ x. (x .0, none, x .1)))

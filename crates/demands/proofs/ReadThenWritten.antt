@@ -1,4 +1,4 @@
--- The file of an accepted file's records is that file again: each of its blocks is the one that the writer makes of its records in use. So a crest has one file only.
+-- The file of an accepted file's records is that file again: each of its blocks is the one that the writer makes of its records in use. So the file of a crest is the one file possible.
 use Prim.Native.Nat.{ℕ, _≤_}
 use mathlib.Core.List.{List}
 use mathlib.Core.Path.{_≡_, sym, ap, _∙_}
@@ -35,7 +35,7 @@ written-again file room bytes e enough =
     let done = writer-done (recordBytes file) (length room) .1 (rules, omega (arith, rw same at size)) in
     rw (done, same)
 
--- A crest has one file only.
+-- The file of a crest is the one file possible.
 pub one-file : (file other : List ℕ) → AllBytes file → AllBytes other → checked file ≡ Done → checked other ≡ Done → recordBytes file ≡ recordBytes other → file ≡ other
 one-file file other b₁ b₂ e₁ e₂ same =
     sym (read-then-written file b₁ e₁ .1) ∙ ap fileOf same ∙ read-then-written other b₂ e₂ .1

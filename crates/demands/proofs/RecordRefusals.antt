@@ -15,7 +15,7 @@ use Rattle.model.specs.declared.Outcome.the-variants.{Done, Refused}
 use Rattle.model.specs.Kinds.{decide}
 use Rattle.model.specs.Records.{byteAt, countOf, recordOf}
 use Rattle.model.specs.Refusals.{Reason, damagedRecord, laterKind, fieldOutOfRange, notUnit, gap, kink, Rule, rule, number, refusal, verdict, forEach}
-use Rattle.model.specs.Acceptance.{isDamaged, isLater, elementOf, reservedZero, rangesGood, isUnit, recordRules, meets, continues, joinRules, elementAt, recordsRules}
+use Rattle.model.specs.Acceptance.{isDamaged, isLater, elementOf, reservedZero, rangesGood, isUnit, recordRules, meets, continues, joinRules, elementAt, eachRecord, eachJoin, recordsRules}
 use Rattle.model.proofs.Verdict.{AllHold, none, more, done→all, all→done}
 use Rattle.crestfile.proofs.ForEach.{all-append, append-all, each→all, all→each}
 use Rattle.walk_laws.proofs.Reasons.{Lacks, empty, other, lacks-++, first-holds, rest-hold, given-exactly}
@@ -168,7 +168,7 @@ unfolding joinRules number
 join-lacks e f r h = lacks-rule gap (h 8 (omega arith) (omega arith)) (lacks-rule kink (h 9 (omega arith) (omega arith)) empty)
 
 pub records-lack : (bytes : List ℕ) {n : ℕ} → n ≤ 3 → Lacks n (recordsRules bytes)
-unfolding recordsRules
+unfolding recordsRules eachRecord eachJoin
 records-lack bytes h =
     lacks-++
     (lacks-forEach (λ k. record-lacks (recordOf bytes k) k (λ m a b. omega arith)) (countOf bytes) 0)
@@ -198,7 +198,7 @@ module _ (before after : List Rule) (bytes : List ℕ) (why : Reason) (r : ℕ) 
   -- 4 to 7, with what makes a record give the number
   pub given-at-record : {P : Type 0} → number why ≤ 7 → (verdict (recordRules (recordOf bytes r) r) ≡ Refused (refusal why r)) ↔ P →
       (verdict (before ++ (recordsRules bytes ++ after)) ≡ Refused (refusal why r)) ↔ (RecordReached before bytes r × P)
-  unfolding recordsRules refusal
+  unfolding recordsRules eachRecord eachJoin refusal
   given-at-record low gives =
       let beyond = lacks-++ (lacks-forEach (λ k. join-lacks (elementAt bytes k) (elementAt bytes (k + 1)) k (λ m a b. omega arith)) (countOf bytes - 1) 0) lacks-after in
       Iff·trans
@@ -210,7 +210,7 @@ module _ (before after : List Rule) (bytes : List ℕ) (why : Reason) (r : ℕ) 
   -- 8 and 9, with what makes a join give the number
   pub given-at-join : {P : Type 0} → 8 ≤ number why → (verdict (joinRules (elementAt bytes r) (elementAt bytes (r + 1)) r) ≡ Refused (refusal why r)) ↔ P →
       (verdict (before ++ (recordsRules bytes ++ after)) ≡ Refused (refusal why r)) ↔ (JoinReached before bytes r × P)
-  unfolding recordsRules refusal
+  unfolding recordsRules eachRecord eachJoin refusal
   given-at-join high gives =
       let lacks-records : Lacks (number why) records = lacks-forEach (λ k. record-lacks (recordOf bytes k) k (λ m a b. omega arith)) (countOf bytes) 0 in
       Iff·trans

@@ -1,7 +1,8 @@
--- Document 01, "Refusal numbers": "given exactly when". Here stand 1 to 9 with their places, 7 for a heading, 11 and 15 to 18; 10 and 12 to 14 are with demand 3.
+-- Document 01, "Refusal numbers": "given exactly when". Here stand 1 to 9 with their places, 7 for a heading, 11 and 15 to 18; 12 to 14 are with demand 3, and 10 to 15 of a
+-- reading in ReadingRefusals.
 -- A number is given exactly when a rule that gives it is the first that fails in its order.
 use Prim.Native.Nat.{ℕ, _+_, _*_, _≤_, _<_}
-use mathlib.Core.Bool.{Bool, true, false, _&&_, and-eq-true-iff}
+use mathlib.Core.Bool.{Bool, true, false, _&&_, false≢true, and-eq-true-iff}
 use mathlib.Core.List.{List, [], _∷_, _++_, append-assoc, append-nil}
 use mathlib.Core.Logic.{_≢_, _⊎_, ⊎-map, _↔_, Iff·rfl, Iff·trans, Iff·and}
 use mathlib.Core.Path.{_≡_, refl, sym, _∙_, ap, ap₂}
@@ -19,30 +20,32 @@ use Rattle.model.specs.declared.Placed.the-variants.{Refused as PlacedRefused}
 use Rattle.model.specs.declared.Located.the-variants.{Refused as LocatedRefused}
 use Rattle.model.specs.declared.Inverse.the-variants.{Refused as InverseRefused}
 use Rattle.model.specs.declared.Move.the-variants.{Refused as MoveRefused}
-use Rattle.model.specs.declared.Reading.{Reading}
+use Rattle.model.specs.declared.ReadingAnswer.{ReadingAnswer}
 use Rattle.model.specs.declared.ReadingAnswer.the-variants.{Refused as AnswerRefused}
 use Rattle.model.specs.declared.Run.{Run}
-use Rattle.model.specs.Refusals.{Reason, byteCount, checksum, blockField, damagedRecord, laterKind, fieldOutOfRange, notUnit, gap, kink, outsideFrame, askedOutOfRange, runFull, recordCount, wrongRoom, Rule, number, refusal, rule, rule₀, verdict, forEach}
+use Rattle.model.specs.Refusals.{Reason, byteCount, checksum, blockField, damagedRecord, laterKind, fieldOutOfRange, notUnit, gap, kink, outsideFrame, askedOutOfRange, runFull, recordCount, wrongRoom, Rule, number, refusal, rule, rule₀, Gives, verdict, forEach}
 use Rattle.model.specs.Records.{blockCount, blockOf, recordBytes, countOf, recordOf}
-use Rattle.model.specs.Acceptance.{inFrame, isUnit, recordRules, joinRules, elementAt, recordsRules, lengthFits, sumsAgree, fieldsFit, sumRules, fieldRules, blocksRules, crestRules, checked, crestElements}
+use Rattle.model.specs.Acceptance.{inFrame, isUnit, recordRules, joinRules, elementAt, recordsRules, lengthFits, sumsAgree, fieldsFit, sumRules, fieldRules, blocksRules, crestRules, checked}
+use Rattle.model.specs.Crest.{Crest, checkOf, fileCrest, isOwn}
 use Rattle.model.specs.Stations.{isStation}
 use Rattle.model.specs.Writer.{countFits, blocksNeeded, writerRules, writerOutcome}
-use Rattle.model.specs.Answers.{code, paperOfOutcome, readerOutcome, placed, located, inverseAt, lineRules, inverseAfter, inverse, moveRules, stakeOut}
-use Rattle.model.specs.Readings.{answerTo}
-use Rattle.model.specs.Run.{shownOf, isFull, runAt, noted, readingCall, acknowledgeCall, stakeOutCall}
+use Rattle.model.specs.Answers.{code, paperOfOutcome, readerOutcome, stationRules, placedAfter, placed, located, inverseAt, lineRules, inverseAfter, inverse, moveRules, stakeOut}
+use Rattle.model.specs.Readings.{refusesReading}
+use Rattle.model.specs.Run.{isFull, runAt, noted}
+use Rattle.model.specs.Calls.{readingCall, acknowledgeCall, stakeOutCall}
+use Rattle.model.specs.Histories.{Came}
 use Rattle.model.proofs.Verdict.{reason-numbered, none, more, done→all, all→done}
-use Rattle.model.proofs.RuleNumbers.{records-up-to-9}
+use Rattle.model.proofs.RuleNumbers.{records-own, file-own}
 use Rattle.crestfile.proofs.ForEach.{one-holds, holds-one, each→all, all→each}
 use Rattle.crestfile.proofs.WriterRules.{rulesButRoom}
-use Rattle.walk_laws.proofs.Reasons.{Lacks, first-holds, rest-hold, empty, other, lacks-++, lacks-above, given-exactly}
-use Rattle.walk_laws.proofs.Outcomes.{file-outside-frame}
-use Rattle.readings.proofs.Refused.{answer-number}
+use Rattle.walk_laws.proofs.Reasons.{Lacks, first-holds, rest-hold, empty, other, lacks-++, lacks-other, given-exactly}
+use Rattle.walk_laws.proofs.Outcomes.{crest-outside-frame}
 use Rattle.readings.proofs.Calls.{reading-18, reading-16, answer-not-the-runs, acknowledge-18, acknowledge-0}
-use Rattle.answers.proofs.Noting.{noted-full, noted-counted}
-use Rattle.demands.proofs.Orders.{and-fails, placed-refused, inverse-refused, move-refused, two-rules, first-given, given-after-crest, next-after-crest}
+use Rattle.readings.proofs.Noting.{noted-full, noted-counted}
+use Rattle.demands.proofs.Orders.{and-fails, placed-if-refused, inverse-if-refused, move-if-refused, two-rules, first-given, given-after-crest, next-after-crest}
 use Rattle.demands.proofs.Places.{lacks-rule, lacks-forEach, nowhere, here, given-at-place}
 use Rattle.demands.proofs.RecordRefusals.{RecordGives4, RecordGives5, RecordGives6, RecordGives7, JoinGives8, JoinGives9, record-gives-4, record-gives-5, record-gives-6, record-gives-7, join-gives-8, join-gives-9, RecordReached, JoinReached, records-lack, given-at-record, given-at-join}
-use Rattle.demands.proofs.Demand1.{Numbered, refused-numbered, ReadingEnds, no-run, run-full, counts, any-reading-call, move-code}
+use Rattle.demands.proofs.Demand1.{Numbered, refused-numbered, came-as-read, ReadingEnds, no-run, run-full, counts, any-reading-call, move-code}
 
 -- ---- 1 to 3 of a file's own bytes: "1; 2 for all blocks; 3 for all"
 
@@ -159,57 +162,57 @@ module _ (file : List ℕ) (r : ℕ) where
   unfolding number
   check-refused-9 = check-at-join kink (omega arith) (join-gives-9 _ _ r)
 
--- ---- 11 and 15 on a crest, after its own
+-- ---- 11 and 15 on a crest of any source, after its own: of a file, `fileCrest file` with `file-own file`
 
-module _ (file : List ℕ) where
+module _ (c : Crest) (own : Gives isOwn (c .rules)) where
   -- "plane point outside the frame, given ..": a point
-  pub point-refused-11 : (p : Point) → (located file p ≡ LocatedRefused (refusal outsideFrame 0)) ↔ ((checked file ≡ Done) × (inFrame (p .x) (p .y) ≡ false))
-  point-refused-11 p = file-outside-frame file p
+  pub point-refused-11 : (p : Point) → (located c p ≡ LocatedRefused (refusal outsideFrame 0)) ↔ ((checkOf c ≡ Done) × (inFrame (p .x) (p .y) ≡ false))
+  point-refused-11 p = crest-outside-frame c own p
 
   -- "station .. out of range": a position asked for
-  pub position-refused-15 : (s : ℤ) → (placed file s ≡ PlacedRefused (refusal askedOutOfRange 0)) ↔ ((checked file ≡ Done) × (isStation (crestElements file) s ≡ false))
-  unfolding placed number
+  pub position-refused-15 : (s : ℤ) → (placed c s ≡ PlacedRefused (refusal askedOutOfRange 0)) ↔ ((checkOf c ≡ Done) × (isStation (c .elements) s ≡ false))
+  unfolding placed placedAfter stationRules number isOwn
   position-refused-15 s =
-      let es = crestElements file in
-      Iff·trans (placed-refused _ es (natAbs s) (refusal askedOutOfRange 0)) (next-after-crest (rule₀ askedOutOfRange (isStation es s)) [] empty file (omega arith))
-
-  -- ".. record number out of range"
-  pub record-refused-15 : (r : ℕ) → (readerOutcome file r ≡ Refused (refusal askedOutOfRange 0)) ↔ ((checked file ≡ Done) × (countOf (recordBytes file) ≤ r))
-  unfolding readerOutcome number
-  record-refused-15 r =
-      let n = countOf (recordBytes file) in
-      Iff·trans (next-after-crest (rule₀ askedOutOfRange (ltb r n)) [] empty file (omega arith)) (Iff·and Iff·rfl (ltb-false r n, le-ltb r n))
+      let es = c .elements in
+      Iff·trans (placed-if-refused _ es (natAbs s) (refusal askedOutOfRange 0)) (next-after-crest (rule₀ askedOutOfRange (isStation es s)) [] empty c own refl)
 
   -- "station, offset .. out of range": a line place
-  pub place-refused-15 : (s w : ℤ) → (inverse file s w ≡ InverseRefused (refusal askedOutOfRange 0)) ↔ ((checked file ≡ Done) × ((isStation (crestElements file) s ≡ false) ⊎ (20000000 < natAbs w)))
-  unfolding inverse inverseAfter lineRules number
+  pub place-refused-15 : (s w : ℤ) → (inverse c s w ≡ InverseRefused (refusal askedOutOfRange 0)) ↔ ((checkOf c ≡ Done) × ((isStation (c .elements) s ≡ false) ⊎ (20000000 < natAbs w)))
+  unfolding inverse inverseAfter lineRules number isOwn
   place-refused-15 s w =
-      let es = crestElements file in
+      let es = c .elements in
       let n = natAbs w in
       Iff·trans
-      (inverse-refused _ es s w (refusal askedOutOfRange 0))
+      (inverse-if-refused _ es s w (refusal askedOutOfRange 0))
       (Iff·trans
-      (next-after-crest (rule₀ askedOutOfRange (isStation es s && leb n 20000000)) _ (other (omega arith) empty) file (omega arith))
+      (next-after-crest (rule₀ askedOutOfRange (isStation es s && leb n 20000000)) _ (other (omega arith) empty) c own refl)
       (Iff·and Iff·rfl (Iff·trans (and-fails (isStation es s) (leb n 20000000)) (⊎-map (λ e. e) (leb-false n 20000000), ⊎-map (λ e. e) (lt-leb n 20000000)))))
 
   -- "plane point outside the frame, .. or resulting": the inverse's
-  pub place-refused-11 : (s w : ℤ) → (inverse file s w ≡ InverseRefused (refusal outsideFrame 0)) ↔
-      ((checked file ≡ Done) × ((isStation (crestElements file) s ≡ true) × (natAbs w ≤ 20000000))
-      × (inFrame (inverseAt (crestElements file) (natAbs s) w .x) (inverseAt (crestElements file) (natAbs s) w .y) ≡ false))
-  unfolding inverse inverseAfter lineRules number
+  pub place-refused-11 : (s w : ℤ) → (inverse c s w ≡ InverseRefused (refusal outsideFrame 0)) ↔
+      ((checkOf c ≡ Done) × ((isStation (c .elements) s ≡ true) × (natAbs w ≤ 20000000))
+      × (inFrame (inverseAt (c .elements) (natAbs s) w .x) (inverseAt (c .elements) (natAbs s) w .y) ≡ false))
+  unfolding inverse inverseAfter lineRules number isOwn
   place-refused-11 s w =
-      let es = crestElements file in
+      let es = c .elements in
       let n = natAbs w in
       let asked = rule₀ askedOutOfRange (isStation es s && leb n 20000000) in
       let q = inverseAt es (natAbs s) w in
       let both = and-eq-true-iff (isStation es s) (leb n 20000000) in
       Iff·trans
-      (inverse-refused _ es s w (refusal outsideFrame 0))
+      (inverse-if-refused _ es s w (refusal outsideFrame 0))
       (Iff·trans
-      (given-after-crest (rule₀ outsideFrame (inFrame (q .x) (q .y))) [] empty file (omega arith) (asked ∷ []) (other (omega arith) empty)) (
+      (given-after-crest (rule₀ outsideFrame (inFrame (q .x) (q .y))) [] empty c own refl (asked ∷ []) (other (omega arith) empty)) (
         (λ x. let b = both .0 (first-holds (x .1)) in (x .0, (b .0, leb-true n 20000000 (b .1)), x .2)),
         (λ x. (x .0, more (both .1 (x .1 .0, le-leb n 20000000 (x .1 .1))) none, x .2)),
       ))
+
+-- ".. record number out of range": the reader of a file
+pub record-refused-15 : (file : List ℕ) (r : ℕ) → (readerOutcome file r ≡ Refused (refusal askedOutOfRange 0)) ↔ ((checked file ≡ Done) × (countOf (recordBytes file) ≤ r))
+unfolding readerOutcome checked number isOwn
+record-refused-15 file r =
+    let n = countOf (recordBytes file) in
+    Iff·trans (next-after-crest (rule₀ askedOutOfRange (ltb r n)) [] empty (fileCrest file) (file-own file) refl) (Iff·and Iff·rfl (ltb-false r n, le-ltb r n))
 
 -- ---- 11 and 7 of a stake-out, which has no crest
 
@@ -222,7 +225,7 @@ module _ (own target : Point) (c s : ℤ) where
       let unit = rule₀ notUnit (isUnit c s) in
       let one : (verdict (moveRules own target c s) ≡ Refused (refusal outsideFrame 0)) ↔ ((a ≡ false) ⊎ (b ≡ false)) =
       rw (two-rules outsideFrame 0 a b (unit ∷ [])) (Iff·trans (first-given (rule₀ outsideFrame (a && b)) (unit ∷ []) (other (omega arith) empty)) (and-fails a b)) in
-      Iff·trans (move-refused _ own target c s (refusal outsideFrame 0)) one
+      Iff·trans (move-if-refused _ own target c s (refusal outsideFrame 0)) one
 
   -- "direction not a unit (.. heading)"
   pub stake-out-refused-7 : (stakeOut own target c s ≡ MoveRefused (refusal notUnit 0)) ↔
@@ -232,7 +235,7 @@ module _ (own target : Point) (c s : ℤ) where
       let own-in = rule₀ outsideFrame (inFrame (own .x) (own .y)) in
       let target-in = rule₀ outsideFrame (inFrame (target .x) (target .y)) in
       Iff·trans
-      (move-refused _ own target c s (refusal notUnit 0))
+      (move-if-refused _ own target c s (refusal notUnit 0))
       (Iff·trans
       (given-exactly (rule₀ notUnit (isUnit c s)) [] empty (own-in ∷ target-in ∷ []) (other (omega arith) (other (omega arith) empty))) (
         (λ x. (first-holds (x .0), first-holds (rest-hold (x .0)), x .1)),
@@ -244,17 +247,17 @@ module _ (own target : Point) (c s : ℤ) where
 module _ (records : List ℕ) (room : ℕ) where
   -- "writer's record bytes not 32 times 1 to 60"
   pub write-refused-17 : (writerOutcome records room ≡ Refused (refusal recordCount 0)) ↔ (countFits (length records) ≡ false)
-  unfolding writerOutcome writerRules number
+  unfolding writerOutcome writerRules number isOwn
   write-refused-17 =
-      first-given (rule₀ recordCount (countFits (length records))) _ (lacks-++ (lacks-above (omega arith) (records-up-to-9 records)) (other (omega arith) empty))
+      first-given (rule₀ recordCount (countFits (length records))) _ (lacks-++ (lacks-other (records-own records) refl) (other (omega arith) empty))
 
   -- "room below the blocks needed", where 17 and 4 to 9 refuse nothing
   pub write-refused-18 : (writerOutcome records room ≡ Refused (refusal wrongRoom 0)) ↔ ((verdict (rulesButRoom records) ≡ Done) × (room < 512 * blocksNeeded records))
-  unfolding writerOutcome writerRules number
+  unfolding writerOutcome writerRules number isOwn
   write-refused-18 =
       let needed = 512 * blocksNeeded records in
       Iff·trans
-      (given-exactly (rule₀ wrongRoom (leb needed room)) [] empty (rulesButRoom records) (other (omega arith) (lacks-above (omega arith) (records-up-to-9 records))))
+      (given-exactly (rule₀ wrongRoom (leb needed room)) [] empty (rulesButRoom records) (other (omega arith) (lacks-other (records-own records) refl)))
       (Iff·and (all→done, done→all (rulesButRoom records)) (leb-false needed room, lt-leb needed room))
 
 -- "The writer gives 17, 4 to 9, 18": after 17 its records are refused as a file's are
@@ -305,37 +308,35 @@ module _ (records : List ℕ) (room r : ℕ) where
   unfolding number
   write-refused-9 = write-at-join kink (omega arith) (omega arith) (join-gives-9 _ _ r)
 
--- ---- 18 and 16 of a run
+-- ---- 18 and 16 of a run, whatever question and crest a reading is
 
-module _ (file : List ℕ) (r : Reading) where
+module _ {a : ReadingAnswer} (came : Came a) where
   -- "a run's bytes not 24"
-  pub reading-refused-18 : (run : List ℕ) → (readingCall file r run .0 ≡ 18) ↔ (length run ≢ 24)
-  reading-refused-18 run = (go (any-reading-call file r run), (λ h. ap (λ o. o .0) (reading-18 file r run h)))
+  pub reading-refused-18 : (run : List ℕ) → (readingCall a run .0 ≡ 18) ↔ (length run ≢ 24)
+  reading-refused-18 run = (go (any-reading-call a run), (λ h. ap (λ o. o .0) (reading-18 a run h)))
     where
-      go : ReadingEnds file r run → readingCall file r run .0 ≡ 18 → length run ≢ 24
+      go : ReadingEnds a run → readingCall a run .0 ≡ 18 → length run ≢ 24
       go (no-run h e) g = h
       go (run-full h f e) g = absurd (omega (arith, ap (λ o. o .0) e))
-      go (counts h f e) g = absurd (answer-not-the-runs file r run 18 (omega arith) (omega arith) (sym (ap (λ o. o .0) e) ∙ g))
+      go (counts h f e) g = absurd (answer-not-the-runs a (came-as-read came) 18 (omega arith) (omega arith) (sym (ap (λ o. o .0) e) ∙ g))
 
   -- "run full"
-  pub reading-refused-16 : (run : List ℕ) → (readingCall file r run .0 ≡ 16) ↔ ((length run ≡ 24) × (isFull (runAt run) ≡ true))
-  reading-refused-16 run = (go (any-reading-call file r run), (λ h. ap (λ o. o .0) (reading-16 file r run (h .0) (h .1))))
+  pub reading-refused-16 : (run : List ℕ) → (readingCall a run .0 ≡ 16) ↔ ((length run ≡ 24) × (isFull (runAt run) ≡ true))
+  reading-refused-16 run = (go (any-reading-call a run), (λ h. ap (λ o. o .0) (reading-16 a run (h .0) (h .1))))
     where
-      go : ReadingEnds file r run → readingCall file r run .0 ≡ 16 → (length run ≡ 24) × (isFull (runAt run) ≡ true)
+      go : ReadingEnds a run → readingCall a run .0 ≡ 16 → (length run ≡ 24) × (isFull (runAt run) ≡ true)
       go (no-run h e) g = absurd (omega (arith, ap (λ o. o .0) e))
       go (run-full h f e) g = (h, f)
-      go (counts h f e) g = absurd (answer-not-the-runs file r run 16 (omega arith) (omega arith) (sym (ap (λ o. o .0) e) ∙ g))
+      go (counts h f e) g = absurd (answer-not-the-runs a (came-as-read came) 16 (omega arith) (omega arith) (sym (ap (λ o. o .0) e) ∙ g))
 
   -- of a run by value
-  pub noted-refused-16 : (run : Run) → (noted file r run .answer ≡ AnswerRefused (refusal runFull 0)) ↔ (isFull run ≡ true)
-  unfolding shownOf refusal number
-  noted-refused-16 run = (go (isFull run) refl, (λ h. ap (λ n. n .answer) (noted-full file r run h)))
+  pub noted-refused-16 : (run : Run) → (noted a run .answer ≡ AnswerRefused (refusal runFull 0)) ↔ (isFull run ≡ true)
+  unfolding refusal number refusesReading isOwn
+  noted-refused-16 run = (go (isFull run) refl, (λ h. ap (λ n. n .answer) (noted-full a run h)))
     where
-      go : (b : Bool) → isFull run ≡ b → noted file r run .answer ≡ AnswerRefused (refusal runFull 0) → b ≡ true
+      go : (b : Bool) → isFull run ≡ b → noted a run .answer ≡ AnswerRefused (refusal runFull 0) → b ≡ true
       go true e g = refl
-      go false e g =
-          let a : answerTo file r ≡ AnswerRefused (refusal runFull 0) = sym (ap (λ n. n .answer) (noted-counted file r run e)) ∙ g in
-          absurd (omega (arith, answer-number file r, ap (λ x. shownOf x .number) a))
+      go false e g = absurd (false≢true (came-as-read came (refusal runFull 0) (sym (ap (λ n. n .answer) (noted-counted a run e)) ∙ g)))
 
 pub acknowledge-refused-18 : (run : List ℕ) → (acknowledgeCall run .0 ≡ 18) ↔ (length run ≢ 24)
 acknowledge-refused-18 run = ((λ g h. let z : _≡_ {A = ℕ} 0 18 = sym (ap (λ o. o .0) (acknowledge-0 run h)) ∙ g in omega arith), (λ h. ap (λ o. o .0) (acknowledge-18 run h)))

@@ -1,0 +1,378 @@
+-- Document 01, "Refusal numbers", of a reading: 1 to 9 are the crest's own, and 10 to 15 are given exactly when, on a crest of any source and by a C call on a run. A reading of
+-- whole numbers is answered and refused as its point or its place is, since the rule of its numbers stands between the crest's own rules and those of the question.
+use Prim.Native.Nat.{ℕ, _+_, _*_, _≤_, _<_}
+use mathlib.Core.Bool.{true, false, _&&_, false≢true, and-false, and-eq-true-iff}
+use mathlib.Core.List.{List, [], _∷_, _++_, append-assoc}
+use mathlib.Core.Logic.{_≢_, _⊎_, ⊎-map, _↔_, Iff·rfl, Iff·trans, Iff·and}
+use mathlib.Core.Path.{_≡_, refl, sym, _∙_, ap, ap₂}
+use native.Mathlib.Nat.{add-zero}
+use native.Mathlib.Omega.{arith}
+use lib.Dec.{leb}
+use borrow.Author.Tests.{lt-leb}
+use lib.Ieee.{Float}
+use lib.IntN.{ℤ, natAbs}
+use lib.ListN.{length}
+use Rattle.model.specs.declared.Element.{Element}
+use Rattle.model.specs.declared.Point.{Point}
+use Rattle.model.specs.declared.Refusal.{Refusal}
+use Rattle.model.specs.declared.Outcome.{Outcome}
+use Rattle.model.specs.declared.Outcome.the-variants.{Done, Refused}
+use Rattle.model.specs.declared.Located.{Located}
+use Rattle.model.specs.declared.Located.the-variants.{At as LocatedAt, Refused as LocatedRefused}
+use Rattle.model.specs.declared.Inverse.the-variants.{Refused as InverseRefused}
+use Rattle.model.specs.declared.Reading.the-variants.{PlanePoint, LinePlace}
+use Rattle.model.specs.declared.ReadingAnswer.{ReadingAnswer}
+use Rattle.model.specs.declared.ReadingAnswer.the-variants.{PlanePoint as AnswerPoint, LinePlace as AnswerPlace, Refused as AnswerRefused}
+use Rattle.model.specs.Refusals.{Reason, Rule, number, refusal, notWhole, outsideFrame, tooFar, beforeStart, afterEnd, askedOutOfRange, rule₀, Gives, orRefused, verdict}
+use Rattle.model.specs.Acceptance.{inFrame}
+use Rattle.model.specs.Crest.{Crest, checkOf, isOwn, SoundCrest}
+use Rattle.model.specs.Stations.{isStation}
+use Rattle.model.specs.Judged.{judged}
+use Rattle.model.specs.Answers.{code, pointRules, locatedIf, locatedAfter, located, inverseAt, lineRules, inverseIf, inverseAfter, inverse}
+use Rattle.model.specs.Readings.{Whole, whole, none, wholeOf, isWhole, valueOf, numberRules, fromLocated, fromInverse, answerAfter, answerTo, paperOfReading}
+use Rattle.model.specs.Run.{isFull, runAt}
+use Rattle.model.specs.Calls.{readingCall}
+use Rattle.model.specs.Histories.{Came, reading}
+use Rattle.model.proofs.Verdict.{done→all, all→done, reason-numbered}
+use Rattle.crestfile.proofs.ForEach.{append-all, all-append, holds-one, one-holds}
+use Rattle.walk_laws.proofs.Outcomes.{TooFar, BeforeStart, AfterEnd, Answered, located-if-refused, crest-answered, crest-outside-frame, crest-too-far, crest-before-start, crest-after-end}
+use Rattle.walk_laws.proofs.Reasons.{Lacks, empty, other, lacks-++, lacks-other, lacks→not-given}
+use Rattle.readings.proofs.Calls.{reading-counted}
+use Rattle.demands.proofs.Orders.{and-fails, point-refused, place-refused, inverse-if-refused, next-after-crest}
+use Rattle.demands.proofs.Places.{first-part, second-part}
+use Rattle.demands.proofs.Demand1.{Numbered, came-numbered, ReadingEnds, no-run, run-full, counts, any-reading-call}
+use Rattle.demands.proofs.RefusalTable.{place-refused-11, place-refused-15}
+
+-- ---- a reading's numbers
+
+not-whole : (a : Whole) → (isWhole a ≡ false) ↔ (a ≡ none)
+unfolding isWhole
+not-whole (whole n) = ((λ e. let z : _≡_ {A = ℕ} 0 1 = cc in absurd (omega arith)), (λ e. let z : _≡_ {A = ℕ} 0 1 = cc in absurd (omega arith)))
+not-whole none = ((λ e. refl), (λ e. refl))
+
+not-both-whole : (a b : Whole) → ((isWhole a && isWhole b) ≡ false) ↔ ((a ≡ none) ⊎ (b ≡ none))
+not-both-whole a b =
+    let f = not-whole a in
+    let g = not-whole b in
+    Iff·trans (and-fails (isWhole a) (isWhole b)) (⊎-map (f .0) (g .0), ⊎-map (f .1) (g .1))
+
+-- both numbers of a reading are whole
+abbrev pub BothWhole : Float → Float → Type 0
+BothWhole x y = (isWhole (wholeOf x) ≡ true) × (isWhole (wholeOf y) ≡ true)
+
+-- the point of two whole numbers
+abbrev pub pointOf : Float → Float → Point
+pointOf x y = record { x = valueOf (wholeOf x); y = valueOf (wholeOf y) }
+
+-- station and offset are in range, and the point there lies outside the frame
+abbrev pub OutsideAsked : List Element → ℤ → ℤ → Type 0
+OutsideAsked es s w =
+    ((isStation es s ≡ true) × (natAbs w ≤ 20000000)) × (inFrame (inverseAt es (natAbs s) w .x) (inverseAt es (natAbs s) w .y) ≡ false)
+
+module _ (c : Crest) (own : Gives isOwn (c .rules)) (x y : Float) where
+  numbers-hold : (verdict (c .rules ++ numberRules x y) ≡ Done) ↔ ((checkOf c ≡ Done) × BothWhole x y)
+  unfolding numberRules
+  numbers-hold =
+      let both = and-eq-true-iff (isWhole (wholeOf x)) (isWhole (wholeOf y)) in (
+        (λ e. let a = append-all (c .rules) (done→all _ e) in (all→done (a .0), both .0 (holds-one (a .1)))),
+        (λ h. all→done (all-append (done→all (c .rules) (h .0)) (one-holds (both .1 (h .1))))),
+      )
+
+  -- rules of which none gives the number stand between the crest's own and the question's
+  between : (question : List Rule) (w : Refusal) → isOwn (w .number) ≡ false → w .number ≢ 10 →
+      (verdict ((c .rules ++ numberRules x y) ++ question) ≡ Refused w) ↔ (BothWhole x y × (verdict (c .rules ++ question) ≡ Refused w))
+  unfolding numberRules number
+  between question w later other-number =
+      let lacks = lacks-other own later in
+      let all = second-part (c .rules ++ numberRules x y) question w (lacks-++ lacks (other (λ e. other-number (sym e)) empty)) in
+      let some = second-part (c .rules) question w lacks in (
+        (λ e. let a = all .0 e in let h = numbers-hold .0 (a .0) in (h .1, some .1 (h .0, a .1))),
+        (λ z. let a = some .0 (z .1) in all .1 (numbers-hold .1 (a .0, z .0), a .1)),
+      )
+
+  -- a plane point of two whole numbers is refused as the point of these numbers is
+  pub point-refused-as : (w : Refusal) → isOwn (w .number) ≡ false → w .number ≢ 10 →
+      (answerTo c (PlanePoint x y) ≡ AnswerRefused w) ↔ (BothWhole x y × (located c (pointOf x y) ≡ LocatedRefused w))
+  unfolding answerTo answerAfter locatedAfter located
+  point-refused-as w later other-number =
+      let es = c .elements in
+      let p = pointOf x y in
+      let s = judged es p in
+      let question = pointRules es p s in
+      let here = located-if-refused (verdict (c .rules ++ question)) es p s w in
+      Iff·trans
+      (point-refused (locatedIf (verdict ((c .rules ++ numberRules x y) ++ question)) es p s) w)
+      (Iff·trans
+      (located-if-refused (verdict ((c .rules ++ numberRules x y) ++ question)) es p s w)
+      (Iff·trans (between question w later other-number) ((λ z. (z .0, here .1 (z .1))), (λ z. (z .0, here .0 (z .1))))))
+
+  -- and a line place as the place of these numbers is
+  pub place-refused-as : (w : Refusal) → isOwn (w .number) ≡ false → w .number ≢ 10 →
+      (answerTo c (LinePlace x y) ≡ AnswerRefused w) ↔ (BothWhole x y × (inverse c (valueOf (wholeOf x)) (valueOf (wholeOf y)) ≡ InverseRefused w))
+  unfolding answerTo answerAfter inverseAfter inverse
+  place-refused-as w later other-number =
+      let es = c .elements in
+      let s = valueOf (wholeOf x) in
+      let o = valueOf (wholeOf y) in
+      let question = lineRules es s o in
+      let here = inverse-if-refused (verdict (c .rules ++ question)) es s o w in
+      Iff·trans
+      (place-refused (inverseIf (verdict ((c .rules ++ numberRules x y) ++ question)) es s o) w)
+      (Iff·trans
+      (inverse-if-refused (verdict ((c .rules ++ numberRules x y) ++ question)) es s o w)
+      (Iff·trans (between question w later other-number) ((λ z. (z .0, here .1 (z .1))), (λ z. (z .0, here .0 (z .1))))))
+
+  -- ---- what is not refused: a reading of whole numbers comes to what its point or its place does
+
+  between-done : BothWhole x y → (question : List Rule) → verdict ((c .rules ++ numberRules x y) ++ question) ≡ verdict (c .rules ++ question)
+  unfolding numberRules verdict orRefused
+  between-done h question =
+      let both = and-eq-true-iff (isWhole (wholeOf x)) (isWhole (wholeOf y)) .1 h in
+      ap verdict (append-assoc (c .rules) (numberRules x y) question) ∙ held-between (c .rules) (rw both)
+    where
+      held-between : (rs : List Rule) → verdict (numberRules x y ++ question) ≡ verdict question → verdict (rs ++ (numberRules x y ++ question)) ≡ verdict (rs ++ question)
+      held-between [] e = e
+      held-between (r ∷ rs) e = ap (orRefused (r .holds) (r .why) (r .place)) (held-between rs e)
+
+  pub point-reading : BothWhole x y → answerTo c (PlanePoint x y) ≡ fromLocated (located c (pointOf x y))
+  unfolding answerTo answerAfter locatedAfter located
+  point-reading h =
+      let es = c .elements in
+      let p = pointOf x y in
+      let s = judged es p in
+      ap (λ o. fromLocated (locatedIf o es p s)) (between-done h (pointRules es p s))
+
+  pub place-reading : BothWhole x y → answerTo c (LinePlace x y) ≡ fromInverse (inverse c (valueOf (wholeOf x)) (valueOf (wholeOf y)))
+  unfolding answerTo answerAfter inverseAfter inverse
+  place-reading h =
+      let es = c .elements in
+      let s = valueOf (wholeOf x) in
+      let o = valueOf (wholeOf y) in
+      ap (λ v. fromInverse (inverseIf v es s o)) (between-done h (lineRules es s o))
+
+  answered-done : (o : Outcome) (es : List Element) (p : Point) (s : ℕ) {station : ℕ} {offset residual : ℤ} {count : ℕ} → locatedIf o es p s ≡ LocatedAt station offset residual count → o ≡ Done
+  unfolding locatedIf
+  answered-done Done es p s e = refl
+  answered-done (Refused w) es p s e = let z : _≡_ {A = ℕ} 0 1 = cc in absurd (omega arith)
+
+  from-answered : (l : Located) {station : ℕ} {offset residual : ℤ} {count : ℕ} → (fromLocated l ≡ AnswerPoint station offset residual count) ↔ (l ≡ LocatedAt station offset residual count)
+  unfolding fromLocated
+  from-answered (LocatedAt station offset residual count) = ((λ e. cc), (λ e. cc))
+  from-answered (LocatedRefused w) = ((λ e. let z : _≡_ {A = ℕ} 0 1 = cc in absurd (omega arith)), (λ e. let z : _≡_ {A = ℕ} 0 1 = cc in absurd (omega arith)))
+
+  -- "A point that meets no refusal is answered, and the station answered is the one judged.", of a plane reading
+  pub reading-answered : (station : ℕ) (offset residual : ℤ) (count : ℕ) → (answerTo c (PlanePoint x y) ≡ AnswerPoint station offset residual count)
+      ↔ ((checkOf c ≡ Done) × BothWhole x y × Answered (c .elements) (pointOf x y) station offset residual count)
+  unfolding answerTo answerAfter locatedAfter
+  reading-answered station offset residual count =
+      let es = c .elements in
+      let p = pointOf x y in
+      let s = judged es p in
+      let rules = (c .rules ++ numberRules x y) ++ pointRules es p s in
+      let at = crest-answered c own p station offset residual count in (
+        (λ e.
+            let done = answered-done (verdict rules) es p s (from-answered (locatedIf (verdict rules) es p s) .0 e) in
+            let h = numbers-hold .0 (all→done (append-all (c .rules ++ numberRules x y) (done→all rules done) .0)) in
+            (h .0, h .1, at .0 (from-answered (located c p) .0 (sym (point-reading (h .1)) ∙ e)) .1)),
+        (λ z. point-reading (z .1) ∙ from-answered (located c p) .1 (at .1 (z .0, z .2))),
+      )
+
+  -- ---- 1 to 9: a reading is refused with a crest's own number exactly when the crest is
+
+  not-own : {n : ℕ} (why : Reason) → isOwn n ≡ true → isOwn (number why) ≡ false → number why ≢ n
+  not-own why own-number later e = false≢true (sym later ∙ ap isOwn e ∙ own-number)
+
+  crest-first : (question : List Rule) (w : Refusal) → isOwn (w .number) ≡ true → Lacks (w .number) question →
+      (verdict ((c .rules ++ numberRules x y) ++ question) ≡ Refused w) ↔ (checkOf c ≡ Refused w)
+  unfolding numberRules number isOwn
+  crest-first question w own-number lacks =
+      rw (append-assoc (c .rules) (numberRules x y) question)
+      (first-part (c .rules) (numberRules x y ++ question) w (lacks-++ (other (not-own notWhole own-number refl) empty) lacks))
+
+  pub point-refused-own : (w : Refusal) → isOwn (w .number) ≡ true → (answerTo c (PlanePoint x y) ≡ AnswerRefused w) ↔ (checkOf c ≡ Refused w)
+  unfolding answerTo answerAfter locatedAfter pointRules number isOwn
+  point-refused-own w own-number =
+      let es = c .elements in
+      let p = pointOf x y in
+      let s = judged es p in
+      let rules = (c .rules ++ numberRules x y) ++ pointRules es p s in
+      let lacks : Lacks (w .number) (pointRules es p s) = other (not-own outsideFrame own-number refl) (other (not-own tooFar own-number refl) (other (not-own beforeStart own-number refl) (other (not-own afterEnd own-number refl) empty))) in
+      Iff·trans (point-refused (locatedIf (verdict rules) es p s) w) (Iff·trans (located-if-refused (verdict rules) es p s w) (crest-first (pointRules es p s) w own-number lacks))
+
+  pub place-refused-own : (w : Refusal) → isOwn (w .number) ≡ true → (answerTo c (LinePlace x y) ≡ AnswerRefused w) ↔ (checkOf c ≡ Refused w)
+  unfolding answerTo answerAfter inverseAfter lineRules number isOwn
+  place-refused-own w own-number =
+      let es = c .elements in
+      let s = valueOf (wholeOf x) in
+      let o = valueOf (wholeOf y) in
+      let rules = (c .rules ++ numberRules x y) ++ lineRules es s o in
+      let lacks : Lacks (w .number) (lineRules es s o) = other (not-own askedOutOfRange own-number refl) (other (not-own outsideFrame own-number refl) empty) in
+      Iff·trans (place-refused (inverseIf (verdict rules) es s o) w) (Iff·trans (inverse-if-refused (verdict rules) es s o w) (crest-first (lineRules es s o) w own-number lacks))
+
+  -- "when the point's station is asked for": 12, 13 and 14 are no line place's
+  pub place-not-judged : (w : Refusal) → 12 ≤ w .number → w .number ≤ 14 → answerTo c (LinePlace x y) ≢ AnswerRefused w
+  unfolding answerTo answerAfter inverseAfter lineRules numberRules number isOwn
+  place-not-judged w low high e =
+      let es = c .elements in
+      let s = valueOf (wholeOf x) in
+      let o = valueOf (wholeOf y) in
+      let later : isOwn (w .number) ≡ false = rw (lt-leb (w .number) 9 (omega arith)) (and-false (leb 1 (w .number))) in
+      let lacks : Lacks (w .number) ((c .rules ++ numberRules x y) ++ lineRules es s o) =
+      lacks-++ (lacks-++ (lacks-other own later) (other (omega arith) empty)) (other (omega arith) (other (omega arith) empty)) in
+      lacks→not-given lacks (inverse-if-refused (verdict ((c .rules ++ numberRules x y) ++ lineRules es s o)) es s o w .0 (place-refused _ w .0 e))
+
+  -- ---- 10: "a reading's number not finite or not whole"
+
+  given-10 : (question : List Rule) → Lacks 10 question → (verdict ((c .rules ++ numberRules x y) ++ question) ≡ Refused (refusal notWhole 0)) ↔ ((checkOf c ≡ Done) × ((wholeOf x ≡ none) ⊎ (wholeOf y ≡ none)))
+  unfolding numberRules number isOwn
+  given-10 question l =
+      rw (append-assoc (c .rules) (numberRules x y) question)
+      (Iff·trans (next-after-crest (rule₀ notWhole (isWhole (wholeOf x) && isWhole (wholeOf y))) question l c own refl) (Iff·and Iff·rfl (not-both-whole (wholeOf x) (wholeOf y))))
+
+  pub point-refused-10 : (answerTo c (PlanePoint x y) ≡ AnswerRefused (refusal notWhole 0)) ↔ ((checkOf c ≡ Done) × ((wholeOf x ≡ none) ⊎ (wholeOf y ≡ none)))
+  unfolding answerTo answerAfter locatedAfter pointRules number
+  point-refused-10 =
+      let es = c .elements in
+      let p = pointOf x y in
+      let s = judged es p in
+      let rules = (c .rules ++ numberRules x y) ++ pointRules es p s in
+      Iff·trans
+      (point-refused (locatedIf (verdict rules) es p s) (refusal notWhole 0))
+      (Iff·trans
+      (located-if-refused (verdict rules) es p s (refusal notWhole 0))
+      (given-10 (pointRules es p s) (other (omega arith) (other (omega arith) (other (omega arith) (other (omega arith) empty))))))
+
+  pub place-refused-10 : (answerTo c (LinePlace x y) ≡ AnswerRefused (refusal notWhole 0)) ↔ ((checkOf c ≡ Done) × ((wholeOf x ≡ none) ⊎ (wholeOf y ≡ none)))
+  unfolding answerTo answerAfter inverseAfter lineRules number
+  place-refused-10 =
+      let es = c .elements in
+      let s = valueOf (wholeOf x) in
+      let o = valueOf (wholeOf y) in
+      let rules = (c .rules ++ numberRules x y) ++ lineRules es s o in
+      Iff·trans
+      (place-refused (inverseIf (verdict rules) es s o) (refusal notWhole 0))
+      (Iff·trans
+      (inverse-if-refused (verdict rules) es s o (refusal notWhole 0))
+      (given-10 (lineRules es s o) (other (omega arith) (other (omega arith) empty))))
+
+  -- ---- 11 to 15 of a reading on a crest
+
+  -- of a plane point: 11, 12, 13 and 14, where the crest is accepted and both numbers are whole
+  point-given : (why : Reason) {C : Type 0} → isOwn (number why) ≡ false → number why ≢ 10 → ((located c (pointOf x y) ≡ LocatedRefused (refusal why 0)) ↔ ((checkOf c ≡ Done) × C)) →
+      (answerTo c (PlanePoint x y) ≡ AnswerRefused (refusal why 0)) ↔ ((checkOf c ≡ Done) × BothWhole x y × C)
+  unfolding refusal
+  point-given why later other-number given =
+      Iff·trans (point-refused-as (refusal why 0) later other-number) (
+        (λ z. let g = given .0 (z .1) in (g .0, z .0, g .1)),
+        (λ z. (z .1, given .1 (z .0, z .2))),
+      )
+
+  pub reading-refused-11 : (answerTo c (PlanePoint x y) ≡ AnswerRefused (refusal outsideFrame 0))
+      ↔ ((checkOf c ≡ Done) × BothWhole x y × (inFrame (valueOf (wholeOf x)) (valueOf (wholeOf y)) ≡ false))
+  unfolding number isOwn
+  reading-refused-11 = point-given outsideFrame refl (λ e. omega arith) (crest-outside-frame c own (pointOf x y))
+
+  pub reading-refused-12 : (answerTo c (PlanePoint x y) ≡ AnswerRefused (refusal tooFar 0)) ↔ ((checkOf c ≡ Done) × BothWhole x y × TooFar (c .elements) (pointOf x y))
+  unfolding number isOwn
+  reading-refused-12 = point-given tooFar refl (λ e. omega arith) (crest-too-far c own (pointOf x y))
+
+  pub reading-refused-13 : (answerTo c (PlanePoint x y) ≡ AnswerRefused (refusal beforeStart 0)) ↔ ((checkOf c ≡ Done) × BothWhole x y × BeforeStart (c .elements) (pointOf x y))
+  unfolding number isOwn
+  reading-refused-13 = point-given beforeStart refl (λ e. omega arith) (crest-before-start c own (pointOf x y))
+
+  pub reading-refused-14 : (answerTo c (PlanePoint x y) ≡ AnswerRefused (refusal afterEnd 0)) ↔ ((checkOf c ≡ Done) × BothWhole x y × AfterEnd (c .elements) (pointOf x y))
+  unfolding number isOwn
+  reading-refused-14 = point-given afterEnd refl (λ e. omega arith) (crest-after-end c own (pointOf x y))
+
+  -- of a line place: 15, and 11 of the resulting point
+  place-given : (why : Reason) {C : Type 0} → isOwn (number why) ≡ false → number why ≢ 10 →
+      ((inverse c (valueOf (wholeOf x)) (valueOf (wholeOf y)) ≡ InverseRefused (refusal why 0)) ↔ ((checkOf c ≡ Done) × C)) →
+      (answerTo c (LinePlace x y) ≡ AnswerRefused (refusal why 0)) ↔ ((checkOf c ≡ Done) × BothWhole x y × C)
+  unfolding refusal
+  place-given why later other-number given =
+      Iff·trans (place-refused-as (refusal why 0) later other-number) (
+        (λ z. let g = given .0 (z .1) in (g .0, z .0, g .1)),
+        (λ z. (z .1, given .1 (z .0, z .2))),
+      )
+
+  pub reading-refused-15 : (answerTo c (LinePlace x y) ≡ AnswerRefused (refusal askedOutOfRange 0))
+      ↔ ((checkOf c ≡ Done) × BothWhole x y × ((isStation (c .elements) (valueOf (wholeOf x)) ≡ false) ⊎ (20000000 < natAbs (valueOf (wholeOf y)))))
+  unfolding number isOwn
+  reading-refused-15 = place-given askedOutOfRange refl (λ e. omega arith) (place-refused-15 c own (valueOf (wholeOf x)) (valueOf (wholeOf y)))
+
+  pub reading-refused-11-resulting : (answerTo c (LinePlace x y) ≡ AnswerRefused (refusal outsideFrame 0)) ↔
+      ((checkOf c ≡ Done) × BothWhole x y × OutsideAsked (c .elements) (valueOf (wholeOf x)) (valueOf (wholeOf y)))
+  unfolding number isOwn
+  reading-refused-11-resulting =
+      place-given outsideFrame refl (λ e. omega arith)
+      (Iff·trans (place-refused-11 c own (valueOf (wholeOf x)) (valueOf (wholeOf y))) ((λ z. (z .0, (z .1, z .2))), (λ z. (z .0, z .1 .0, z .1 .1))))
+
+-- ---- the same of the C call on a run
+
+-- "A C call returns the refusal number plus 256 times its place": a call returns that of a reading's refusal exactly when the run's bytes are 24, the run is not full and
+-- the reading came to it
+module _ {a : ReadingAnswer} (came : Came a) (run : List ℕ) where
+  returns : (a : ReadingAnswer) → ((why : Refusal) → a ≡ AnswerRefused why → Numbered why) → (why : Reason) (place : ℕ) → code (paperOfReading 0 a) ≡ number why + 256 * place → a ≡ AnswerRefused (refusal why place)
+  unfolding code paperOfReading refusal
+  returns (AnswerPoint station offset residual visits) h why place e = absurd (omega (arith, reason-numbered why))
+  returns (AnswerPlace x y) h why place e = absurd (omega (arith, reason-numbered why))
+  returns (AnswerRefused w) h why place e =
+      let n : w .number ≡ number why = omega (arith, reason-numbered why, h w refl) in
+      let p : w .place ≡ place = omega (arith, reason-numbered why, h w refl) in
+      ap₂ (λ (m k : ℕ). AnswerRefused (record { number = m; place = k })) n p
+
+  pub call-returns : (why : Reason) (place : ℕ) → number why ≢ 16 → number why ≢ 18 →
+      (readingCall a run .0 ≡ number why + 256 * place) ↔ ((length run ≡ 24) × (isFull (runAt run) ≡ false) × (a ≡ AnswerRefused (refusal why place)))
+  unfolding code paperOfReading refusal
+  call-returns why place not-full not-room = (
+    go (any-reading-call a run),
+    (λ x. ap (λ o. o .0) (reading-counted a run (x .0) (x .1)) ∙ ap (λ z. code (paperOfReading 0 z)) (x .2)),
+  )
+    where
+      go : ReadingEnds a run → readingCall a run .0 ≡ number why + 256 * place → (length run ≡ 24) × (isFull (runAt run) ≡ false) × (a ≡ AnswerRefused (refusal why place))
+      go (no-run h e) g = let z : 18 ≡ number why + 256 * place = sym (ap (λ o. o .0) e) ∙ g in absurd (not-room (omega (arith, reason-numbered why)))
+      go (run-full h f e) g = let z : 16 ≡ number why + 256 * place = sym (ap (λ o. o .0) e) ∙ g in absurd (not-full (omega (arith, reason-numbered why)))
+      go (counts h f e) g = (h, f, returns a (came-numbered came) why place (sym (ap (λ o. o .0) e) ∙ g))
+
+  -- with what makes the reading come to a refusal without a place
+  pub call-given : (why : Reason) {C : Type 0} → number why ≢ 16 → number why ≢ 18 → ((a ≡ AnswerRefused (refusal why 0)) ↔ C) →
+      (readingCall a run .0 ≡ number why) ↔ ((length run ≡ 24) × (isFull (runAt run) ≡ false) × C)
+  call-given why not-full not-room given =
+      let returned = call-returns why 0 not-full not-room in (
+        (λ e. let x = returned .0 (e ∙ sym (add-zero (number why))) in (x .0, x .1, given .0 (x .2))),
+        (λ x. returned .1 (x .0, x .1, given .1 (x .2)) ∙ add-zero (number why)),
+      )
+
+-- so of a plane reading and of a line reading on a crest, each number
+module _ (c : Crest) (sound : SoundCrest c) (x y : Float) (run : List ℕ) where
+  pub plane-call-refused-10 : (readingCall (answerTo c (PlanePoint x y)) run .0 ≡ 10) ↔ ((length run ≡ 24) × (isFull (runAt run) ≡ false) × ((checkOf c ≡ Done) × ((wholeOf x ≡ none) ⊎ (wholeOf y ≡ none))))
+  unfolding number
+  plane-call-refused-10 = call-given (reading c sound (PlanePoint x y)) run notWhole (λ e. omega arith) (λ e. omega arith) (point-refused-10 c (sound .own) x y)
+
+  pub plane-call-refused-11 : (readingCall (answerTo c (PlanePoint x y)) run .0 ≡ 11) ↔ ((length run ≡ 24) × (isFull (runAt run) ≡ false) × ((checkOf c ≡ Done) × BothWhole x y × (inFrame (valueOf (wholeOf x)) (valueOf (wholeOf y)) ≡ false)))
+  unfolding number
+  plane-call-refused-11 = call-given (reading c sound (PlanePoint x y)) run outsideFrame (λ e. omega arith) (λ e. omega arith) (reading-refused-11 c (sound .own) x y)
+
+  pub plane-call-refused-12 : (readingCall (answerTo c (PlanePoint x y)) run .0 ≡ 12) ↔ ((length run ≡ 24) × (isFull (runAt run) ≡ false) × ((checkOf c ≡ Done) × BothWhole x y × TooFar (c .elements) (pointOf x y)))
+  unfolding number
+  plane-call-refused-12 = call-given (reading c sound (PlanePoint x y)) run tooFar (λ e. omega arith) (λ e. omega arith) (reading-refused-12 c (sound .own) x y)
+
+  pub plane-call-refused-13 : (readingCall (answerTo c (PlanePoint x y)) run .0 ≡ 13) ↔ ((length run ≡ 24) × (isFull (runAt run) ≡ false) × ((checkOf c ≡ Done) × BothWhole x y × BeforeStart (c .elements) (pointOf x y)))
+  unfolding number
+  plane-call-refused-13 = call-given (reading c sound (PlanePoint x y)) run beforeStart (λ e. omega arith) (λ e. omega arith) (reading-refused-13 c (sound .own) x y)
+
+  pub plane-call-refused-14 : (readingCall (answerTo c (PlanePoint x y)) run .0 ≡ 14) ↔ ((length run ≡ 24) × (isFull (runAt run) ≡ false) × ((checkOf c ≡ Done) × BothWhole x y × AfterEnd (c .elements) (pointOf x y)))
+  unfolding number
+  plane-call-refused-14 = call-given (reading c sound (PlanePoint x y)) run afterEnd (λ e. omega arith) (λ e. omega arith) (reading-refused-14 c (sound .own) x y)
+
+  pub line-call-refused-10 : (readingCall (answerTo c (LinePlace x y)) run .0 ≡ 10) ↔ ((length run ≡ 24) × (isFull (runAt run) ≡ false) × ((checkOf c ≡ Done) × ((wholeOf x ≡ none) ⊎ (wholeOf y ≡ none))))
+  unfolding number
+  line-call-refused-10 = call-given (reading c sound (LinePlace x y)) run notWhole (λ e. omega arith) (λ e. omega arith) (place-refused-10 c (sound .own) x y)
+
+  pub line-call-refused-15 : (readingCall (answerTo c (LinePlace x y)) run .0 ≡ 15) ↔ ((length run ≡ 24) × (isFull (runAt run) ≡ false) × ((checkOf c ≡ Done) × BothWhole x y × ((isStation (c .elements) (valueOf (wholeOf x)) ≡ false) ⊎ (20000000 < natAbs (valueOf (wholeOf y))))))
+  unfolding number
+  line-call-refused-15 = call-given (reading c sound (LinePlace x y)) run askedOutOfRange (λ e. omega arith) (λ e. omega arith) (reading-refused-15 c (sound .own) x y)
+
+  pub line-call-refused-11 : (readingCall (answerTo c (LinePlace x y)) run .0 ≡ 11) ↔ ((length run ≡ 24) × (isFull (runAt run) ≡ false) × ((checkOf c ≡ Done) × BothWhole x y × OutsideAsked (c .elements) (valueOf (wholeOf x)) (valueOf (wholeOf y))))
+  unfolding number
+  line-call-refused-11 = call-given (reading c sound (LinePlace x y)) run outsideFrame (λ e. omega arith) (λ e. omega arith) (reading-refused-11-resulting c (sound .own) x y)

@@ -2,7 +2,7 @@
 
 For each chapter of the definitions cases are made with a fixed seed: a definition applied to an input, and
 what the reference gives for it. They are written as tables whose equality is proved by `refl`, into a copy
-of the repository's crates in a temporary folder, and checked there. Then one false table for each chapter
+of the repository's crates in a temporary folder, and checked there. Then a false table for each table
 is checked, made by exchanging two expected values, which has to be refused.
 
 definition_cases.py [FOLDER] uses FOLDER, which must not exist yet, and keeps it. Exit status 1 where the
@@ -86,6 +86,16 @@ def outcome_text(refusal):
 
 def float_text(bits):
     return f"(float {bits:#x})"
+
+
+def file_crest(file):
+    """The crest of a file's bytes, as an argument."""
+    return f"(fileCrest {spelt(file)})"
+
+
+def paper_text(number, place, *values):
+    """The number, the place and all the values of an answer; a refusal of the reference has zeros for them."""
+    return f"(paper {number} {place} {listed(map(whole, values))})"
 
 
 # ---------------------------------------------------------------------------
@@ -187,6 +197,13 @@ KIND_USES = (
 )
 ELEMENT_USES = (*KIND_USES, "declared.Element.{Element}", "declared.Point.{Point}")
 OUTCOME_USES = ("declared.Outcome.{Outcome}", "declared.Outcome.the-variants.{Done, Refused}")
+FILE_CREST_USES = ("Acceptance.{crestRules, crestElements}", "Crest.{fileCrest}")
+FILE_CREST = "crestRules crestElements"  # what a file's crest is computed by
+
+PAPER_FORM = """-- the paper's number, place and values
+abbrev paper : ℕ → ℕ → List ℤ → PaperAnswer
+paper n p v = record { number = n; place = p; values = v }
+"""
 
 
 def declarations(table):
@@ -282,6 +299,28 @@ def rounding(rng):
 # ---------------------------------------------------------------------------
 # 2 Records
 
+# Document 01's numbers under the names that the definitions give them, by module.
+NAMED_NUMBERS = {
+    "Records": {
+        **{"blockSize": 512, "recordSize": 32, "perBlock": 15, "recordsEnd": 480, "mostRecords": 60},
+        **{"fieldsAt": 480, "usedAt": 482, "editionAt": 484, "edition": 1, "zerosAt": 488, "zeroCount": 20},
+        **{"sumsAt": 508, "sumBAt": 510, "sumModulus": 65_536},
+        **{"kindAt": 0, "firstZerosAt": 1, "firstZeroCount": 3, "recordLengthAt": 4, "xAt": 8, "yAt": 12},
+        **{"cAt": 16, "sAt": 20, "radiusAt": 24, "lastZerosAt": 28, "lastZeroCount": 4},
+    },
+    "Acceptance": {
+        **{"longestElement": 500_000, "frame": 200_000_000, "widest": 10_000_000},
+        **{"unitSlack": 2**31, "widestGap": 100, "widestKink": 1_000_000},
+    },
+    "Answers": {"farthest": 400_000_000_000_000, "pastEnd": 100, "widestOffset": 20_000_000},
+    "Run": {
+        **{"mostCounted": 65_535, "runSize": 24, "answeredAt": 0, "refusedAt": 2, "latestAt": 4, "firstAt": 6},
+        **{"firstReadingAt": 8, "oneAt": 12, "twoAt": 16, "threeAt": 20},
+    },
+    "Calls": {"moveSize": 8, "forwardAt": 0, "leftAt": 4},
+    "Refusals": {"lastNumber": 18},
+}
+
 
 def records(rng):
     def field(name, size, value):
@@ -330,9 +369,12 @@ def records(rng):
     starts = [Case(f"recordStart {r}", str(crest.read_record(file, r).start)) for r in range(60)]
     u16s = [0, 1, 255, 256, 65_280, 65_535, *(spread(rng, 65_535) for _ in range(34))]
     u32s = [0, 1, 255, 256, 65_536, 2**31 - 1, 2**31, 2**32 - 1, *(spread(rng, 2**32 - 1) for _ in range(52))]
+    i32s = [*I32, -(2**24), -65_536, -256, -255, 255, 256, *(signed(rng, 2**31 - 1) for _ in range(40))]
     u16_out = [Case(f"u16Bytes {n}", naturals(struct.pack("<H", n))) for n in u16s]
     u32_out = [Case(f"u32Bytes {n}", naturals(struct.pack("<I", n))) for n in u32s]
+    i32_out = [Case(f"i32Bytes {whole(n)}", naturals(struct.pack("<i", n))) for n in i32s]
     plain = [random_bytes(rng, count) for count in (0, 1, 2, 3, 24, 32, 33, 512)]
+    named = [Case(name, str(number)) for numbers in NAMED_NUMBERS.values() for name, number in numbers.items()]
     tables = [
         Table("bytes-spelt", "List ℕ", "part", [Case(spelt(data), naturals(data)) for data in plain]),
         Table("u16-read", "ℕ", "part", field("u16At", 2, unsigned)),
@@ -340,6 +382,7 @@ def records(rng):
         Table("i32-read", "ℤ", "part", field("i32At", 4, twos_complement)),
         Table("u16-written", "List ℕ", "part", u16_out),
         Table("u32-written", "List ℕ", "part", u32_out),
+        Table("i32-written", "List ℕ", "part", i32_out),
         Table("parts", "List ℕ", "part", parts),
         Table("zeros", "Bool", "allZero", zeros),
         Table("puts", "List ℕ", "putAll", puts),
@@ -347,9 +390,13 @@ def records(rng):
         Table("sums-B", "ℕ", "sumB", [Case(f"sumB {spelt(b)}", str(crest.sums(b)[1])) for b in blocks], 20),
         Table("record-bytes", "List ℕ", "recordBytes", used, 4),
         Table("record-starts", "ℕ", "part", starts),
+        Table("named-numbers", "ℕ", "part", named),
     ]
-    fields = "u16At, u32At, i32At, u16Bytes, u32Bytes, part, field, putAll"
-    uses = (f"Records.{{{fields}, allZero, sumA, sumB, recordBytes, recordStart}}",)
+    fields = "u16At, u32At, i32At, u16Bytes, u32Bytes, i32Bytes, part, field, putAll"
+    uses = (
+        f"Records.{{{fields}, allZero, sumA, sumB, recordBytes, recordStart}}",
+        *(f"{module}.{{{', '.join(numbers)}}}" for module, numbers in NAMED_NUMBERS.items()),
+    )
     return Chapter(2, "Records", uses, tables)
 
 
@@ -653,7 +700,7 @@ def writer(rng):
         *split("files", "List ℕ", "fileOf", files, 10),
         *split("calls", "ℕ × List ℕ", "writeCall", rng.sample(calls, 40), 5),
     ]
-    uses = (*OUTCOME_USES, "Writer.{writerOutcome, written, fileOf}", "Run.{writeCall}")
+    uses = (*OUTCOME_USES, "Writer.{writerOutcome, written, fileOf}", "Calls.{writeCall}")
     return Chapter(4, "Writer", uses, tables)
 
 
@@ -851,7 +898,7 @@ def stations(rng):
     wishes = [Wish(count=count) for count in (1, 1, 2, 3, 4, 5, 8)]
     sizes = ((3, 500_000), (5, 1), (60, 40), (12, 100_000))
     wishes += [Wish(count=count, longest=longest) for count, longest in sizes]
-    elements, positions, tangents, distances, totals, allowed = [], [], [], [], [], []
+    elements, numbers, positions, tangents, distances, totals, allowed = [], [], [], [], [], [], []
     named = named_alignments(rng, wishes)
     for one in named:
         alignment = one.alignment
@@ -859,9 +906,12 @@ def stations(rng):
         for s in (-(2**40), -1, 0, 1, alignment.total - 1, alignment.total, alignment.total + 1):
             allowed.append(Case(f"isStation {one.name} {whole(s)}", truth(0 <= s <= alignment.total)))
         tested = stations_of(rng, alignment)
+        for s in tested:
+            number, _ = crest.element_at(alignment, s)
+            numbers.append(Case(f"atStation {one.name} {s} .number", str(number)))
         for s in rng.sample(tested, min(30, len(tested))):
             number, along = crest.element_at(alignment, s)
-            due = f"record {{ element = {one.element(number)}; s = {along} }}"
+            due = f"record {{ number = {number}; element = {one.element(number)}; s = {along} }}"
             elements.append(Case(f"atStation {one.name} {s}", due))
             positions.append(Case(f"positionAt {one.name} {s}", point_text(crest.position_at(alignment, s))))
             tangents.append(Case(f"tangentAt {one.name} {s}", point_text(crest.direction_at(alignment, s))))
@@ -872,6 +922,7 @@ def stations(rng):
         Table("totals", "ℕ", "total", totals),
         Table("allowed", "Bool", "isStation", allowed),
         Table("elements", "AtElement", "atStation", elements),
+        Table("element-numbers", "ℕ", "atStation", numbers),
         Table("positions", "Point", "positionAt", positions),
         Table("tangents", "Point", "tangentAt", tangents),
         Table("distances", "ℕ", "D", distances),
@@ -939,15 +990,21 @@ def judged(rng):
             file = rng.choice(DAMAGES)(rng, file)
         (p,) = points_for(rng, alignment, 1)
         answer = crest.station_and_offset(file, *p)
-        file_answers.append(Case(f"located {spelt(file)} {point_text(p)}", located_text(answer)))
+        file_answers.append(Case(f"located {file_crest(file)} {point_text(p)}", located_text(answer)))
     tables = [
         Table("stations", "ℕ", "judged", stations_, 20),
         Table("residuals", "ℤ", "residualAt", residuals),
         Table("offsets", "ℤ", "offsetAt", offsets),
         Table("answers", "Located", "locatedOn", answers, 10),
-        Table("file-answers", "Located", "located", file_answers, 4),
+        Table("file-answers", "Located", f"located {FILE_CREST}", file_answers, 4),
     ]
-    uses = (*ELEMENT_USES, *LOCATED_USES, "Judged.{judged, residualAt, offsetAt}", "Answers.{locatedOn, located}")
+    uses = (
+        *ELEMENT_USES,
+        *LOCATED_USES,
+        *FILE_CREST_USES,
+        "Judged.{judged, residualAt, offsetAt}",
+        "Answers.{locatedOn, located}",
+    )
     return Chapter(8, "Judged", uses, tables, shown(named))
 
 
@@ -1007,6 +1064,15 @@ def walk(rng):
 # ---------------------------------------------------------------------------
 # 10 Answers
 
+INVERSE_USES = (
+    "declared.Inverse.{Inverse}",
+    "declared.Inverse.the-variants.{At as InverseAt, Refused as InverseRefused}",
+)
+PLACED_USES = (
+    "declared.Placed.{Placed}",
+    "declared.Placed.the-variants.{At as PlacedAt, Refused as PlacedRefused}",
+)
+
 
 def inverse_text(answer):
     if answer.number:
@@ -1048,8 +1114,16 @@ def some_move(rng):
     return (place(), place()), (place(), place()), heading
 
 
+def placed_answer(held, s):
+    """Position and direction at a station of what a check said; the reference asks a file."""
+    if isinstance(held, Refusal):
+        return crest.StationAnswer(*held)
+    return crest.position_and_direction(crest.file_made(records_of(held.elements)), s)
+
+
 def answers(rng):
-    inverses, file_inverses, placed, moves, calls = [], [], [], [], []
+    inverses, file_inverses, on_elements, placed, moves, calls = [], [], [], [], [], []
+    placed_papers, located_papers, inverse_papers, move_papers, papers = [], [], [], [], []
     seen = set()
     edge = Wish(count=2, middle=(FRAME, -FRAME + 5), heading=(0, ONE), kinds=(LINE,), gap=0)
     named = named_alignments(rng, [edge, *(Wish(count=n, longest=m) for n in (1, 2, 5, 20) for m in (60, 500_000))])
@@ -1059,6 +1133,11 @@ def answers(rng):
             answer = crest.line_answer(one.alignment, s, w)
             seen.add(answer.number)
             inverses.append(Case(f"inverseOn {one.name} {whole(s)} {whole(w)}", inverse_text(answer)))
+            papers.append(Case(f"paperOfInverse ({inverse_text(answer)})", paper_text(*answer)))
+            s, _ = some_place(rng, one.alignment.total)
+            answer = placed_answer(one.alignment, s)
+            on_elements.append(Case(f"placedOn {one.name} {whole(s)}", placed_text(answer)))
+            papers.append(Case(f"paperOfPlaced ({placed_text(answer)})", paper_text(*answer)))
     assert seen == {0, 11, 15}, seen
     for _ in range(40):
         file, alignment = crest_file(rng, rng.choice((1, 2, 3)), longest=rng.choice((50, 500_000)))
@@ -1066,10 +1145,24 @@ def answers(rng):
         if rng.randrange(4) == 0:
             file = rng.choice(DAMAGES)(rng, file)
         s, w = some_place(rng, total)
-        due = inverse_text(crest.inverse(file, s, w))
-        file_inverses.append(Case(f"inverse {spelt(file)} {whole(s)} {whole(w)}", due))
+        answer = crest.inverse(file, s, w)
+        file_inverses.append(Case(f"inverse {file_crest(file)} {whole(s)} {whole(w)}", inverse_text(answer)))
+        inverse_papers.append(Case(f"inversePaper {file_crest(file)} {whole(s)} {whole(w)}", paper_text(*answer)))
         s, _ = some_place(rng, total)
-        placed.append(Case(f"placed {spelt(file)} {whole(s)}", placed_text(crest.position_and_direction(file, s))))
+        answer = crest.position_and_direction(file, s)
+        placed.append(Case(f"placed {file_crest(file)} {whole(s)}", placed_text(answer)))
+        placed_papers.append(Case(f"placedPaper {file_crest(file)} {whole(s)}", paper_text(*answer)))
+    seen = set()
+    located = [(crest.file_made(records_of(STRAIGHT.alignment.elements)), p) for p in LIMIT_POINTS[::4]]
+    for _ in range(30):
+        file, alignment = short_crest(rng)
+        located += [(file, p) for p in points_for(rng, alignment, 1)]
+    for file, p in located:
+        answer = crest.station_and_offset(file, *p)
+        seen.add(answer.number)
+        located_papers.append(Case(f"locatedPaper {file_crest(file)} {point_text(p)}", paper_text(*answer)))
+        papers.append(Case(f"paperOfLocated ({located_text(answer)})", paper_text(*answer)))
+    assert {0, 11, 12, 13, 14} <= seen, seen
     seen = set()
     for _ in range(120):
         own, target, (c, s) = some_move(rng)
@@ -1077,29 +1170,39 @@ def answers(rng):
         seen.add(answer.number)
         text = f"{point_text(own)} {point_text(target)} {whole(c)} {whole(s)}"
         moves.append(Case(f"stakeOut {text}", move_text(answer)))
+        move_papers.append(Case(f"movePaper {text}", paper_text(*answer)))
+        papers.append(Case(f"paperOfMove ({move_text(answer)})", paper_text(*answer)))
         room = random_bytes(rng, rng.choice((8, 8, 8, 8, 0, 7, 9, 24)))
         value, after = crest.crest_stake_out(*own, *target, c, s, room)
         calls.append(Case(f"stakeOutCall {text} {spelt(room)}", f"({value}, {spelt(after)})"))
     assert seen == {0, 7, 11}, seen
     tables = [
         Table("inverses", "Inverse", "inverseOn", inverses, 30),
-        Table("file-inverses", "Inverse", "inverse", file_inverses, 8),
-        Table("placed", "Placed", "placed", placed, 8),
+        Table("file-inverses", "Inverse", f"inverse {FILE_CREST}", file_inverses, 8),
+        Table("placed-on", "Placed", "placedOn", on_elements, 30),
+        Table("placed", "Placed", f"placed {FILE_CREST}", placed, 8),
         Table("moves", "Move", "stakeOut", moves),
         Table("move-calls", "ℕ × List ℕ", "stakeOutCall", calls),
+        Table("papers", "PaperAnswer", "paperOfPlaced paperOfLocated paperOfInverse paperOfMove", papers),
+        Table("placed-papers", "PaperAnswer", f"placedPaper {FILE_CREST}", placed_papers, 8),
+        Table("located-papers", "PaperAnswer", f"locatedPaper {FILE_CREST}", located_papers, 5),
+        Table("inverse-papers", "PaperAnswer", f"inversePaper {FILE_CREST}", inverse_papers, 8),
+        Table("move-papers", "PaperAnswer", "movePaper", move_papers),
     ]
     uses = (
         *ELEMENT_USES,
-        "declared.Inverse.{Inverse}",
-        "declared.Inverse.the-variants.{At as InverseAt, Refused as InverseRefused}",
-        "declared.Placed.{Placed}",
-        "declared.Placed.the-variants.{At as PlacedAt, Refused as PlacedRefused}",
+        *PLACED_USES,
+        *LOCATED_USES,
+        *INVERSE_USES,
+        *FILE_CREST_USES,
         "declared.Move.{Move}",
         "declared.Move.the-variants.{By, Refused as MoveRefused}",
-        "Answers.{inverseOn, inverse, placed, stakeOut}",
-        "Run.{stakeOutCall}",
+        "Answers.{inverseOn, inverse, placedOn, placed, stakeOut}",
+        "Answers.{PaperAnswer, paperOfPlaced, paperOfLocated, paperOfInverse, paperOfMove}",
+        "Answers.{placedPaper, locatedPaper, inversePaper, movePaper}",
+        "Calls.{stakeOutCall}",
     )
-    return Chapter(10, "Answers", uses, tables, shown(named))
+    return Chapter(10, "Answers", uses, tables, (PAPER_FORM, *shown(named)))
 
 
 # ---------------------------------------------------------------------------
@@ -1120,6 +1223,7 @@ ANSWER_USES = (
     f"declared.ReadingAnswer.the-variants.{{{ANSWER_NAMES}}}",
 )
 READING_USES = ("declared.Reading.{Reading}", "declared.Reading.the-variants.{PlanePoint, LinePlace}")
+ASKED = f"answerTo ofBits {FILE_CREST}"  # what a reading on a crest file is computed by
 
 
 def answer_text(reading, answer):
@@ -1139,6 +1243,15 @@ def display_text(pair):
 def reading_text(reading):
     sort = "PlanePoint" if isinstance(reading, crest.PlanePoint) else "LinePlace"
     return f"({sort} {float_text(reading[0])} {float_text(reading[1])})"
+
+
+def values_of(reading, answer):
+    """The values that a reading asks for: station, offset, residual, visits; or X, Y."""
+    return (*answer.three, answer.count) if isinstance(reading, crest.PlanePoint) else answer.three[:2]
+
+
+def reading_paper(reading, answer):
+    return paper_text(answer.number, answer.place, *values_of(reading, answer))
 
 
 def odd_bits(rng):
@@ -1183,15 +1296,27 @@ def readings(rng):
         found = crest.whole_of_f64(bits)
         due = "none" if found is None else f"whole {whole(found)}"
         wholes.append(Case(f"wholeOf {float_text(bits)}", due))
-    answered, seen = [], set()
+    answered, papers, of_answers, seen = [], [], [], set()
     for _ in range(90):
         file, alignment = short_crest(rng)
         reading = some_reading(rng, alignment)
         answer = crest.reading_answer(crest.check(file), reading)
         seen.add(answer.number)
-        due = answer_text(reading, answer)
-        answered.append(Case(f"answerTo {spelt(file)} {reading_text(reading)}", due))
-    assert {0, 10, 11, 13, 14, 15} <= seen, seen
+        asked, due = f"{file_crest(file)} {reading_text(reading)}", reading_paper(reading, answer)
+        answered.append(Case(f"answerTo {asked}", answer_text(reading, answer)))
+        papers.append(Case(f"readingPaper {asked}", due))
+        of_answers.append(Case(f"paperOfReading (valueCount {reading_text(reading)}) (answerTo {asked})", due))
+    assert {0, 10, 11, 13, 14, 15} <= seen <= {0, *OF_READINGS}, seen
+    counts, of_any = [], []
+    for _ in range(80):
+        reading, answer = random_answer(rng)
+        text, due = answer_text(reading, answer), reading_paper(reading, answer)
+        counts.append(Case(f"valueCount {reading_text(reading)}", str(len(values_of(reading, answer)))))
+        of_any.append(Case(f"paperOfReading (valueCount {reading_text(reading)}) ({text})", due))
+        n = rng.choice((0, 2, 4, spread(rng, 9)))
+        if answer.number:  # as many zeros as are asked for; an answer has its own values
+            due = paper_text(answer.number, answer.place, *[0] * n)
+        of_any.append(Case(f"paperOfReading {n} ({text})", due))
     pairs = [(0, 0), (30_000_000, 20_000_424), (1, -1), (5, 300), (7, -50)]
     pairs += [(2**53 + 1, 2**53 + 1), (2**64 - 1, -(2**63))]
     pairs += [(spread(rng, 30_000_000), signed(rng, 20_000_424)) for _ in range(60)]
@@ -1207,17 +1332,23 @@ def readings(rng):
         displays.append(Case(f"displayOf (AnswerRefused {refusal_text(number, spread(rng, 60))})", nothing))
     tables = [
         Table("wholes", "Whole", "wholeOf ofBits", wholes),
-        Table("answers", "ReadingAnswer", "answerTo ofBits", answered, 5),
+        Table("answers", "ReadingAnswer", ASKED, answered, 5),
+        Table("papers", "PaperAnswer", f"readingPaper ofBits {FILE_CREST}", papers[::2], 5),
+        Table("papers-of", "PaperAnswer", f"paperOfReading valueCount {ASKED}", of_answers[1::2], 5),
+        Table("papers-of-any", "PaperAnswer", "paperOfReading valueCount ofBits", of_any),
+        Table("value-counts", "ℕ", "valueCount ofBits", counts),
         Table("displays", "Display", "displayOf ofInt div ofBits", displays, 25),
     ]
     uses = (
         *READING_USES,
         *ANSWER_USES,
+        *FILE_CREST_USES,
         "declared.Display.{Display}",
         "lib.Ieee.{ofBits, ofInt, div}",
-        "Readings.{Whole, whole, none, wholeOf, answerTo, displayOf}",
+        "Answers.{PaperAnswer}",
+        "Readings.{Whole, whole, none, wholeOf, answerTo, valueCount, paperOfReading, readingPaper, displayOf}",
     )
-    return Chapter(11, "Readings", uses, tables)
+    return Chapter(11, "Readings", uses, tables, (PAPER_FORM,))
 
 
 # ---------------------------------------------------------------------------
@@ -1256,26 +1387,31 @@ shown n i j k = record { number = n; one = i; two = j; three = k }
 
 
 def random_answer(rng):
-    """(an outcome, its text as an answer)."""
+    """(a reading of any numbers, an outcome that its sort has)."""
     choice = rng.randrange(3)
     if choice == 0:
-        number, place = rng.randint(1, 15), rng.choice((0, 0, 3, 59))
-        return crest.ReadingAnswer(number, place), f"(AnswerRefused {refusal_text(number, place)})"
-    if choice == 1:
-        x, y = signed(rng, FRAME), signed(rng, FRAME)
-        return crest.ReadingAnswer(0, 0, (x, y, 0)), f"(AnswerPlace {whole(x)} {whole(y)})"
-    three = spread(rng, 30_000_000), signed(rng, 20_000_424), signed(rng, 200)
-    visits = spread(rng, 10**6)
-    text = f"(AnswerPoint {three[0]} {whole(three[1])} {whole(three[2])} {visits})"
-    return crest.ReadingAnswer(0, 0, three, visits), text
+        sort = rng.choice((crest.PlanePoint, crest.LinePlace))
+        outcome = crest.ReadingAnswer(rng.randint(1, 15), rng.choice((0, 0, 3, 59)))
+    elif choice == 1:
+        sort = crest.LinePlace
+        outcome = crest.ReadingAnswer(0, 0, (signed(rng, FRAME), signed(rng, FRAME), 0))
+    else:
+        sort = crest.PlanePoint
+        three = spread(rng, 30_000_000), signed(rng, 20_000_424), signed(rng, 200)
+        outcome = crest.ReadingAnswer(0, 0, three, spread(rng, 10**6))
+    return sort(odd_bits(rng), odd_bits(rng)), outcome
 
 
 def run_record(rng):
     """The run by value and as bytes, from states of every sort."""
     shown_, counted, acknowledged, read, written, full = [], [], [], [], [], []
+    for number in range(1, 19):
+        for place in (0, 59):
+            answer = crest.ReadingAnswer(number, place)
+            shown_.append(Case(f"shownOf (AnswerRefused {refusal_text(number, place)})", shown_text(answer)))
     for _ in range(60):
-        state, (outcome, text) = random_run(rng), random_answer(rng)
-        shown_.append(Case(f"shownOf {text}", shown_text(outcome)))
+        state, (reading, outcome) = random_run(rng), random_answer(rng)
+        shown_.append(Case(f"shownOf ({answer_text(reading, outcome)})", shown_text(outcome)))
         due = run_text(crest.run_after(state, outcome))
         counted.append(Case(f"counted {shown_text(outcome)} {run_text(state)}", due))
         state = random_run(rng, full=True)
@@ -1296,9 +1432,45 @@ def run_record(rng):
     ]
 
 
+def reading_told(state, outcome, limit=crest.RUN_LIMIT):
+    """(outcome, run afterwards) of a reading that comes to an outcome, on a run that counts up to a limit."""
+    if state.answered + state.refused >= limit:
+        return crest.ReadingAnswer(16, 0), state
+    return outcome, crest.run_after(state, outcome)
+
+
+def run_answers(rng):
+    """A reading on a run, by value and as a C call, by what it came to, whatever crest it was."""
+    noted, papers, calls, seen = [], [], [], set()
+    for number in range(80):
+        reading, came = random_answer(rng)
+        state = random_run(rng, full=number % 4 == 0)
+        if number % 8 == 0:
+            state = state._replace(answered=30_000, refused=crest.RUN_LIMIT - 30_000 - rng.randrange(2))
+        text = f"({answer_text(reading, came)})"
+        outcome, after = reading_told(state, came)
+        seen.add((type(reading), came.number > 0, outcome.number == 16))
+        due = f"record {{ answer = {answer_text(reading, outcome)}; run = {run_text(after)} }}"
+        noted.append(Case(f"noted {text} {run_text(state)}", due))
+        asked = f"notedPaper {reading_paper(reading, came)} {run_text(state)}"
+        papers.append(Case(asked, reading_paper(reading, outcome)))
+        data, left = crest.bytes_of_run(state), crest.bytes_of_run(after)
+        if number % 5 == 0:
+            data = left = random_bytes(rng, rng.choice((0, 8, 23, 25)))
+            outcome = crest.ReadingAnswer(18, 0)
+        value = crest.c_value(outcome.number, outcome.place)
+        calls.append(Case(f"readingCall {text} {spelt(data)}", f"({value}, {spelt(left)})"))
+    assert len(seen) == 8, seen  # answered and refused ones of both sorts, on full and other runs
+    return [
+        Table("noted-answers", "Noted", "noted", noted),
+        Table("noted-papers", "PaperAnswer", "notedPaper", papers),
+        Table("answer-calls", "ℕ × List ℕ", "readingCall", calls),
+    ]
+
+
 def run_calls(rng):
-    """The C calls on any bytes, and a reading on a run by value."""
-    acknowledgements, read_calls, noted, checks = [], [], [], []
+    """The C calls on any bytes, and readings of a crest file on a run by value."""
+    acknowledgements, read_calls, noted, shown_, papers, checks = [], [], [], [], [], []
     for number in range(60):
         length = 24 if number % 3 else rng.choice((0, 1, 8, 23, 25, 48, 512))
         data = random_bytes(rng, length)
@@ -1312,18 +1484,23 @@ def run_calls(rng):
         data = crest.bytes_of_run(state) if number % 8 else random_bytes(rng, rng.choice((0, 1, 23, 25, 24)))
         value, after = crest.c_reading(file, reading, data)
         returned.add(value % 256)
-        asked = f"{spelt(file)} {reading_text(reading)}"
-        read_calls.append(Case(f"readingCall {asked} {spelt(data)}", f"({value}, {spelt(after)})"))
+        asked = f"{file_crest(file)} {reading_text(reading)}"
+        read_calls.append(Case(f"readingCall (answerTo {asked}) {spelt(data)}", f"({value}, {spelt(after)})"))
+        outcome = shown_text(crest.reading_answer(crest.check(file), reading))
+        shown_.append(Case(f"shownOf (answerTo {asked})", outcome))
         answer, after = crest.take_reading(state, crest.check(file), reading)
         due = f"record {{ answer = {answer_text(reading, answer)}; run = {run_text(after)} }}"
-        noted.append(Case(f"noted {asked} {run_text(state)}", due))
-        checks.append(Case(f"checkCall {spelt(file)}", str(crest.crest_check(file))))
+        noted.append(Case(f"noted (answerTo {asked}) {run_text(state)}", due))
+        papers.append(Case(f"notedPaper (readingPaper {asked}) {run_text(state)}", reading_paper(reading, answer)))
+        checks.append(Case(f"checkCall {file_crest(file)}", str(crest.crest_check(file))))
     assert {0, 10, 16, 18} <= returned, returned
     return [
         Table("acknowledge-calls", "ℕ × List ℕ", "acknowledgeCall", acknowledgements),
-        Table("reading-calls", "ℕ × List ℕ", "readingCall ofBits", read_calls, 5),
-        Table("noted", "Noted", "noted ofBits", noted[::2], 5),
-        Table("check-calls", "ℕ", "checkCall", checks[::3], 5),
+        Table("reading-calls", "ℕ × List ℕ", f"readingCall {ASKED}", read_calls, 5),
+        Table("shown-of-readings", "Shown", f"shownOf {ASKED}", shown_[1::3], 5),
+        Table("noted", "Noted", f"noted {ASKED}", noted[::2], 5),
+        Table("papers", "PaperAnswer", f"notedPaper readingPaper ofBits {FILE_CREST}", papers[::5], 5),
+        Table("check-calls", "ℕ", f"checkCall {FILE_CREST}", checks[::3], 5),
     ]
 
 
@@ -1337,8 +1514,8 @@ class Call(NamedTuple):
 ACKNOWLEDGE = Call(None, "acknowledge")
 
 
-def random_calls(rng):
-    """Calls on one short crest, which is now and then damaged."""
+def crest_calls(rng):
+    """Calls with readings on one short crest, which is now and then damaged."""
     file, alignment = random_crests.random_file(rng, short_wish(rng, 8))
     if rng.randrange(8) == 0:
         file = rng.choice(DAMAGES)(rng, file)
@@ -1346,8 +1523,19 @@ def random_calls(rng):
     for _ in range(rng.randint(0, 5)):
         reading = some_reading(rng, alignment)
         outcome = crest.reading_answer(crest.check(file), reading)
-        call = Call(outcome, f"read {spelt(file)} {reading_text(reading)}")
+        call = Call(outcome, f"read (answerTo {file_crest(file)} {reading_text(reading)})")
         calls.append(ACKNOWLEDGE if rng.randrange(4) == 0 else call)
+    return calls
+
+
+def any_calls(rng):
+    """Calls with any outcomes, and acknowledgements more or less often."""
+    often = rng.choice((2, 4, 8, 1000))
+    calls = []
+    for _ in range(rng.choice((0, 1, 2, 3, 5, 8, 13, 40))):
+        reading, outcome = random_answer(rng)
+        call = Call(outcome, f"read ({answer_text(reading, outcome)})")
+        calls.append(ACKNOWLEDGE if rng.randrange(often) == 0 else call)
     return calls
 
 
@@ -1356,8 +1544,8 @@ def run_told(state, outcomes, limit=crest.RUN_LIMIT):
     for outcome in outcomes:
         if outcome is None:
             state = crest.acknowledged(state)
-        elif state.answered + state.refused < limit:
-            state = crest.run_after(state, outcome)
+        else:
+            _, state = reading_told(state, outcome, limit)
     return state
 
 
@@ -1365,11 +1553,10 @@ def event_text(outcome):
     return "acknowledgement" if outcome is None else f"came {shown_text(outcome)}"
 
 
-def histories(rng):
+def history_tables(rng, name, made, unfolding, size):
     """What calls do to a run, and what demand 1 says that it then shows: both against the reference."""
-    after, bytes_after, demanded, events, cut, nearly_full = [], [], [], [], [], []
-    for _ in range(16):
-        calls = random_calls(rng)
+    after, bytes_after, demanded, events, nearly_full = [], [], [], [], []
+    for calls in made:
         text, outcomes = listed(call.text for call in calls), [call.outcome for call in calls]
         state = run_told(crest.FRESH, outcomes)
         after.append(Case(f"afterCalls {text} fresh", run_text(state)))
@@ -1379,36 +1566,46 @@ def histories(rng):
         left = rng.randint(0, 3)
         state = random_run(rng)._replace(answered=30_000, refused=crest.RUN_LIMIT - 30_000 - left)
         nearly_full.append(Case(f"afterCalls {text} {run_text(state)}", run_text(run_told(state, outcomes))))
+    return [
+        Table(f"after-{name}", "Run", f"afterCalls {unfolding}", after, size),
+        Table(f"bytes-after-{name}", "List ℕ", f"bytesAfterCalls {unfolding}", bytes_after, size),
+        Table(f"demanded-{name}", "Run", f"demanded {unfolding}", demanded, size),
+        Table(f"nearly-full-{name}", "Run", f"afterCalls {unfolding}", nearly_full, size),
+        Table(f"events-{name}", "Event", f"eventOf {unfolding}", events, 8),
+    ]
+
+
+def histories(rng):
+    cut = []
     for _ in range(80):
-        often, limit = rng.choice((2, 4, 8, 1000)), rng.choice((0, 1, 2, 3, 10, 65_535, 65_535))
-        length = rng.choice((0, 1, 2, 3, 5, 8, 13, 40))
-        outcomes = [None if rng.randrange(often) == 0 else random_answer(rng)[0] for _ in range(length)]
+        limit = rng.choice((0, 1, 2, 3, 10, 65_535, 65_535))
+        outcomes = [call.outcome for call in any_calls(rng)]
         asked = f"shownAfter (countedOf {limit} {listed(map(event_text, outcomes))})"
         cut.append(Case(asked, run_text(run_told(crest.FRESH, outcomes, limit))))
     return [
-        Table("after-calls", "Run", "afterCalls ofBits", after, 3),
-        Table("bytes-after-calls", "List ℕ", "bytesAfterCalls ofBits", bytes_after, 3),
-        Table("demanded", "Run", "demanded ofBits", demanded, 3),
-        Table("nearly-full", "Run", "afterCalls ofBits", nearly_full, 3),
-        Table("events", "Event", "eventOf ofBits", events, 8),
+        *history_tables(rng, "readings", [crest_calls(rng) for _ in range(16)], ASKED, 3),
+        *history_tables(rng, "answers", [any_calls(rng) for _ in range(24)], "", 8),
         Table("demanded-of-events", "Run", "shownAfter countedOf", cut, 20),
     ]
 
 
 def run(rng):
-    tables = [*run_record(rng), *run_calls(rng), *histories(rng)]
-    calls = "readingCall, acknowledgeCall, checkCall"
+    tables = [*run_record(rng), *run_answers(rng), *run_calls(rng), *histories(rng)]
     uses = (
         *READING_USES,
         *ANSWER_USES,
+        *FILE_CREST_USES,
         "declared.Run.{Run}",
         "lib.Ieee.{ofBits}",
         "declared.Noted.{Noted}",
-        f"Run.{{Shown, fresh, isFull, shownOf, counted, acknowledged, noted, runAt, runBytes, {calls}}}",
+        "Answers.{PaperAnswer}",
+        "Readings.{answerTo, readingPaper}",
+        "Run.{Shown, fresh, isFull, shownOf, counted, acknowledged, noted, notedPaper, runAt, runBytes}",
+        "Calls.{readingCall, acknowledgeCall, checkCall}",
         "Histories.{Call, read, acknowledge, afterCalls, bytesAfterCalls, freshBytes, demanded}",
         "Histories.{Event, came, acknowledgement, eventOf, countedOf, shownAfter}",
     )
-    return Chapter(12, "Run", uses, tables, (SHOWN_FORM,))
+    return Chapter(12, "Run", uses, tables, (SHOWN_FORM, PAPER_FORM))
 
 
 # ---------------------------------------------------------------------------
@@ -1436,6 +1633,16 @@ TABLE = (
     ("wrongRoom", "room below the blocks needed, a run's bytes not 24, or a C move's not 8"),
 )
 REASONS = [why for why, _ in TABLE]
+OWN = range(1, 10)  # "no refusal of its own bytes applies, here 1 to 9"
+OF_READINGS = range(1, 16)  # a crest's own; "then 10; 11 or 15; .. 12; 13; 14; 11 for a resulting point"
+
+
+def random_rules(rng, numbers):
+    """(rules as an argument, the refusal of the first that does not hold, or None)."""
+    rules = [(rng.choice(numbers), spread(rng, 60), rng.randrange(5) > 0) for _ in range(rng.randint(0, 9))]
+    first = next((Refusal(number, place) for number, place, holds in rules if not holds), None)
+    texts = (f"rule {REASONS[number - 1]} {place} {truth(holds)}" for number, place, holds in rules)
+    return listed(texts), first
 
 
 def refusals(rng):
@@ -1447,10 +1654,11 @@ def refusals(rng):
             given.append(Case(f"refusal {why} {place}", refusal_text(number, place)))
     verdicts = []
     for _ in range(120):
-        rules = [(rng.randint(1, 18), spread(rng, 60), rng.randrange(5) > 0) for _ in range(rng.randint(0, 9))]
-        first = next((Refusal(number, place) for number, place, holds in rules if not holds), None)
-        texts = (f"rule {REASONS[number - 1]} {place} {truth(holds)}" for number, place, holds in rules)
-        verdicts.append(Case(f"verdict {listed(texts)}", outcome_text(first)))
+        text, first = random_rules(rng, range(1, 19))
+        verdicts.append(Case(f"verdict {text}", outcome_text(first)))
+    tested = [*range(31), 255, 256, 257, 65_535, 2**32, 2**64, *(spread(rng, 2**40) for _ in range(10))]
+    own = [Case(f"isOwn {n}", truth(n in OWN)) for n in tested]
+    of_readings = [Case(f"refusesReading {n}", truth(n in OF_READINGS)) for n in tested]
     codes = [Case("code (paperOfOutcome Done)", "0")]
     for number in range(1, 19):
         for place in (0, rng.randint(1, 59)):
@@ -1462,6 +1670,8 @@ def refusals(rng):
         Table("given", "Refusal", "refusal", given),
         Table("verdicts", "Outcome", "verdict", verdicts),
         Table("codes", "ℕ", "code paperOfOutcome", codes),
+        Table("own", "Bool", "isOwn", own),
+        Table("of-readings", "Bool", "refusesReading", of_readings),
     ]
     uses = (
         *OUTCOME_USES,
@@ -1469,6 +1679,8 @@ def refusals(rng):
         "Prim.Native.String.{String}",
         f"Refusals.{{Reason, number, sentence, refusal, rule, verdict, {', '.join(REASONS)}}}",
         "Answers.{code, paperOfOutcome}",
+        "Crest.{isOwn}",
+        "Readings.{refusesReading}",
     )
     return Chapter(13, "Refusals", uses, tables)
 
@@ -1495,7 +1707,7 @@ def program(rng):
     signs += [Case(f"signed {whole(n)}", spelt(str(n).encode())) for n in (signed(rng, 20_000_424) for _ in range(30))]
     lines, lasts = [], []
     for _ in range(40):
-        outcome, _ = random_answer(rng)
+        _, outcome = random_answer(rng)
         number = rng.choice((1, 9, 10, 65_536, spread(rng, 70_000)))
         lines.append(Case(f"readingLine {number} {shown_text(outcome)}", spelt(program_line(number, outcome).encode())))
         state = random_run(rng)
@@ -1524,7 +1736,7 @@ def program(rng):
         for number, reading in enumerate(found, 65_534):
             outcome, state = crest.take_reading(state, held, reading)
             text += program_line(number, outcome)
-        asked = f"printFrom {spelt(file)} 65534 {run_text(start)} {listed(map(reading_text, found))}"
+        asked = f"printFrom {file_crest(file)} 65534 {run_text(start)} {listed(map(reading_text, found))}"
         full.append(Case(asked, spelt((text + last_line(state)).encode())))
     tables = [
         Table("decimals", "List ℕ", "decimal", decimals),
@@ -1532,17 +1744,87 @@ def program(rng):
         Table("reading-lines", "List ℕ", "readingLine", lines),
         Table("last-lines", "List ℕ", "lastLine", lasts),
         Table("readings-of", "List Reading", "readingsOf", read, 20),
-        Table("printed", "List ℕ", "printed ofBits", printed, 5),
-        Table("full", "List ℕ", "printFrom ofBits", full, 5),
+        Table("printed", "List ℕ", f"printed ofBits {FILE_CREST}", printed, 5),
+        Table("full", "List ℕ", f"printFrom ofBits {FILE_CREST}", full, 5),
     ]
     uses = (
         *READING_USES,
+        *FILE_CREST_USES,
         "declared.Run.{Run}",
         "lib.Ieee.{ofBits}",
         "Run.{Shown}",
         "Program.{decimal, signed, readingLine, lastLine, readingsOf, printFrom, printed}",
     )
     return Chapter(14, "Program", uses, tables, (SHOWN_FORM,))
+
+
+# ---------------------------------------------------------------------------
+# 15 Crest
+
+CREST_FORM = """-- a crest of any source
+abbrev crest : List Rule → List Element → Crest
+crest rules elements = record { rules = rules; elements = elements }
+"""
+
+
+def any_crest(rng):
+    """Questions to a crest of any rules and elements, whose own refusals come first."""
+    checks, placed, located, inverses, readings_, on_elements, papers = [], [], [], [], [], [], []
+    named = named_alignments(rng, [short_wish(rng, 24) for _ in range(30)])
+    seen = set()
+    for one in named:
+        for _ in range(2):
+            rules, refusal = random_rules(rng, OWN)
+            text, held = f"(crest {rules} {one.name})", refusal or one.alignment
+            checks.append(Case(f"checkOf {text}", outcome_text(refusal)))
+            s, _ = some_place(rng, one.alignment.total)
+            answer = placed_answer(held, s)
+            placed.append(Case(f"placed {text} {whole(s)}", placed_text(answer)))
+            papers.append(Case(f"placedPaper {text} {whole(s)}", paper_text(*answer)))
+            (p,) = points_for(rng, one.alignment, 1)
+            answer = crest.plane_answer(held, *p)
+            located.append(Case(f"located {text} {point_text(p)}", located_text(answer)))
+            papers.append(Case(f"locatedPaper {text} {point_text(p)}", paper_text(*answer)))
+            s, w = some_place(rng, one.alignment.total)
+            answer = crest.line_answer(held, s, w)
+            inverses.append(Case(f"inverse {text} {whole(s)} {whole(w)}", inverse_text(answer)))
+            papers.append(Case(f"inversePaper {text} {whole(s)} {whole(w)}", paper_text(*answer)))
+            reading = some_reading(rng, one.alignment)
+            answer = crest.reading_answer(held, reading)
+            seen.add(answer.number)
+            readings_.append(Case(f"answerTo {text} {reading_text(reading)}", answer_text(reading, answer)))
+            papers.append(Case(f"readingPaper {text} {reading_text(reading)}", reading_paper(reading, answer)))
+            answer = crest.reading_answer(one.alignment, reading)
+            on_elements.append(Case(f"answerOn {one.name} {reading_text(reading)}", answer_text(reading, answer)))
+    assert {0, 10, 15} <= seen and seen & set(OWN), seen
+    for _ in range(20):
+        file, _ = short_crest(rng)
+        checks.append(Case(f"checkOf {file_crest(file)}", outcome_text(outcome_of(crest.check(file)))))
+    tables = [
+        Table("checks", "Outcome", f"verdict {FILE_CREST}", checks, 10),
+        Table("placed", "Placed", "placed", placed, 20),
+        Table("located", "Located", "located", located, 10),
+        Table("inverses", "Inverse", "inverse", inverses, 20),
+        Table("readings", "ReadingAnswer", "answerTo ofBits", readings_, 10),
+        Table("answers-on", "ReadingAnswer", "answerOn ofBits", on_elements, 10),
+        Table("papers", "PaperAnswer", "placedPaper locatedPaper inversePaper readingPaper ofBits", papers, 10),
+    ]
+    uses = (
+        *ELEMENT_USES,
+        *OUTCOME_USES,
+        *PLACED_USES,
+        *LOCATED_USES,
+        *INVERSE_USES,
+        *READING_USES,
+        *ANSWER_USES,
+        *FILE_CREST_USES,
+        "lib.Ieee.{ofBits}",
+        f"Refusals.{{Rule, rule, verdict, {', '.join(REASONS[: len(OWN)])}}}",
+        "Crest.{Crest, checkOf}",
+        "Answers.{PaperAnswer, placed, placedPaper, located, locatedPaper, inverse, inversePaper}",
+        "Readings.{answerOn, answerTo, readingPaper}",
+    )
+    return Chapter(15, "Crest", uses, tables, (PAPER_FORM, CREST_FORM, *shown(named)))
 
 
 MAKERS = (
@@ -1560,6 +1842,7 @@ MAKERS = (
     run,
     refusals,
     program,
+    any_crest,
 )
 
 
@@ -1631,14 +1914,17 @@ def errors_in(text, most=12):
     return "\n".join(lines[:most]) or text[-2000:]
 
 
-def exchanged(chapter):
-    """A false table of a chapter: two cases with their expected values exchanged."""
+def false_tables(chapter):
+    """Two cases of each table with their expected values exchanged; a table that expects one value only has none."""
+    found = []
     for table in chapter.tables:
-        for other in table.cases[1:]:
-            one = table.cases[0]
-            if other.due != one.due:
-                return table._replace(name="false", cases=[Case(one.asked, other.due), Case(other.asked, one.due)])
-    raise AssertionError(chapter.name)
+        one = table.cases[0]
+        other = next((case for case in table.cases if case.due != one.due), None)
+        if other:
+            cases = [Case(one.asked, other.due), Case(other.asked, one.due)]
+            found.append(table._replace(name=f"false-{table.name}", cases=cases))
+    assert found, chapter.name
+    return found
 
 
 def single_cases(chapter, refused):
@@ -1696,12 +1982,14 @@ def check_all(folder):
     if not verdict.accepted:
         show_refused(folder, made, verdict)
         return 1
-    put_modules(folder, {chapter.module: module_text(chapter, [exchanged(chapter)]) for chapter in made})
+    false = {chapter.module: false_tables(chapter) for chapter in made}
+    put_modules(folder, {chapter.module: module_text(chapter, false[chapter.module]) for chapter in made})
     verdict = ask_checker(folder, "dev")
-    taken = [chapter.name for chapter in made if (chapter.module, "false-1") not in verdict.refused]
-    print(f"false tables: {len(made) - len(taken)} of {len(made)} refused, in {time.monotonic() - checked:.0f} s")
+    places = {(module, name) for module, some in false.items() for table in some for name, _ in declarations(table)}
+    taken = sorted(places - set(verdict.refused))
+    print(f"false tables: {len(places) - len(taken)} of {len(places)} refused, in {time.monotonic() - checked:.0f} s")
     if taken:
-        print(f"NOT REFUSED: {', '.join(taken)}\n{errors_in(verdict.text)}")
+        print(f"NOT REFUSED: {', '.join(map(' '.join, taken))}\n{errors_in(verdict.text)}")
         return 1
     return 0
 

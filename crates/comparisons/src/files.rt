@@ -1,5 +1,5 @@
 // Crest files: a row's number and place of a refusal, both 0 where the file is accepted.
-use crest::entries::check;
+use entries::check;
 use model::Outcome;
 
 // Whether the check of a file comes to the row's number and place.

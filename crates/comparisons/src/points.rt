@@ -30,5 +30,5 @@ pub fn agrees(row: &[u8; 64], crest: &[u8]) -> bool {
         x: signed(u64_at(row, 0)),
         y: signed(u64_at(row, 8)),
     };
-    same(row, crest::entries::locate(crest, p))
+    same(row, entries::locate(crest, p))
 }

@@ -17,8 +17,6 @@ ghost use Rattle.model.specs.Crest.{fileCrest};
 ghost use Rattle.model.specs.Readings.{answerTo};
 ghost use Rattle.model.specs.Calls.{readingCall, acknowledgeCall, checkCall, writeCall, stakeOutCall};
 
-pub mod entries;
-
 // The check of a file.
 #[no_mangle]
 pub extern "C" fn crest_check(crest: &[u8]) -> u32

@@ -2,9 +2,9 @@
 use codes::code_of;
 use codes::point;
 use codes::put_two;
-use crest::entries::inverse;
-use crest::entries::locate;
-use crest::entries::position;
+use entries::inverse;
+use entries::locate;
+use entries::position;
 use model::Inverse;
 use model::Located;
 use model::Placed;

@@ -1,0 +1,124 @@
+// The entries for callers in Rattle, of a crest file: bytes are lent, numbers and answers go by value, and a run by value or in place. Each answer is the one
+// that document 01 defines, and `paper` says the same by its number, place and values.
+pub use alignment::part::record_part;
+use answers::ask;
+pub use in_place::acknowledge as acknowledge_in_place;
+pub use in_place::note as note_in_place;
+use model::Display;
+use model::Inverse;
+use model::Located;
+use model::Move;
+use model::Outcome;
+use model::Placed;
+use model::Point;
+use model::Reading;
+use model::ReadingAnswer;
+use model::Run;
+pub use readings::run::acknowledge;
+use sources::Form;
+use sources::no_amendment;
+ghost use mathlib.Core.List.{[]};
+ghost use mathlib.Core.Path.{_≡_};
+ghost use lib.ListN.{length};
+ghost use Rattle.model.specs.Acceptance.{checked};
+ghost use Rattle.model.specs.Writer.{writerOutcome, written};
+ghost use Rattle.model.specs.Crest.{fileCrest};
+ghost use Rattle.model.specs.Answers.{paperIf, paperOfOutcome, readerOutcome, placed, paperOfPlaced, placedPaper, located, paperOfLocated, locatedPaper, inverse as inverseIn, paperOfInverse, inversePaper, stakeOut, paperOfMove, movePaper};
+ghost use Rattle.model.specs.Readings.{answerTo, valueCount, paperOfReading, readingPaper, displayOf};
+ghost use Rattle.model.specs.Run.{notedPaper};
+ghost use Rattle.entries.specs.Entries.{notedReading};
+
+// What a reading on a run came to, its display pair, and the run afterwards.
+pub struct NotedReading {
+    pub answer: ReadingAnswer,
+    pub display: Display,
+    pub run: Run,
+}
+
+// The check of a file.
+pub fn check(file: &[u8]) -> Outcome
+    ensures { λ o. ⌜ o ≡ checked (now (file .entry)) ⌝ }
+    ensures paper { λ o. ⌜ paperOfOutcome o ≡ paperIf (checked (now (file .entry))) [] ⌝ }
+{
+    alignment::check::check(file, no_amendment(file), Form::File)
+}
+
+// What the reader of record r comes to.
+pub fn record_outcome(file: &[u8], r: usize) -> Outcome
+    ensures { λ o. ⌜ o ≡ readerOutcome (now (file .entry)) r ⌝ }
+    ensures paper { λ o. ⌜ paperOfOutcome o ≡ paperIf (readerOutcome (now (file .entry)) r) [] ⌝ }
+{
+    alignment::part::record_outcome(file, r)
+}
+
+// The file of these records at the front of the room; a refusal leaves the room as it came.
+pub fn write(records: &[u8], room: &mut [u8]) -> Outcome
+    ensures { λ o. ⌜ o ≡ writerOutcome (now (records .entry)) (length (now (room .entry))) ⌝ }
+    ensures { λ _. ⌜ now (room .exit) ≡ written (now (records .entry)) (now (room .entry)) ⌝ }
+    ensures paper { λ o. ⌜ paperOfOutcome o ≡ paperIf (writerOutcome (now (records .entry)) (length (now (room .entry)))) [] ⌝ }
+{
+    alignment::write::write(records, room)
+}
+
+// The position and the direction at a station.
+pub fn position(file: &[u8], s: i64) -> Placed
+    ensures { λ r. ⌜ r ≡ placed (fileCrest (now (file .entry))) s ⌝ }
+    ensures paper { λ r. ⌜ paperOfPlaced r ≡ placedPaper (fileCrest (now (file .entry))) s ⌝ }
+{
+    ask::position(file, no_amendment(file), Form::File, s)
+}
+
+// Station and offset of a point.
+pub fn locate(file: &[u8], q: Point) -> Located
+    ensures { λ r. ⌜ r ≡ located (fileCrest (now (file .entry))) q ⌝ }
+    ensures paper { λ r. ⌜ paperOfLocated r ≡ locatedPaper (fileCrest (now (file .entry))) q ⌝ }
+{
+    ask::locate(file, no_amendment(file), Form::File, q)
+}
+
+// The point at a station and an offset.
+pub fn inverse(file: &[u8], s: i64, w: i64) -> Inverse
+    ensures { λ r. ⌜ r ≡ inverseIn (fileCrest (now (file .entry))) s w ⌝ }
+    ensures paper { λ r. ⌜ paperOfInverse r ≡ inversePaper (fileCrest (now (file .entry))) s w ⌝ }
+{
+    ask::inverse(file, no_amendment(file), Form::File, s, w)
+}
+
+// How far to move a stake.
+pub fn stake_out(own: Point, target: Point, c: i64, s: i64) -> Move
+    ensures { λ r. ⌜ r ≡ stakeOut own target c s ⌝ }
+    ensures paper { λ r. ⌜ paperOfMove r ≡ movePaper own target c s ⌝ }
+{
+    stakes::stake_out(own, target, c, s)
+}
+
+// What a reading comes to on a crest, without a run.
+pub fn answer(file: &[u8], reading: Reading) -> ReadingAnswer
+    ensures { λ r. ⌜ r ≡ answerTo (fileCrest (now (file .entry))) reading ⌝ }
+    ensures paper { λ r. ⌜ paperOfReading (valueCount reading) r ≡ readingPaper (fileCrest (now (file .entry))) reading ⌝ }
+{
+    ask::answer(file, no_amendment(file), Form::File, reading)
+}
+
+// The display pair of it.
+pub fn display(file: &[u8], reading: Reading) -> Display
+    ensures { λ r. ⌜ r ≡ displayOf (answerTo (fileCrest (now (file .entry))) reading) ⌝ }
+{
+    let came = answer(file, reading);
+    readings::display::display(came)
+}
+
+// A reading on a run: counted, or refused with 16 where the run is full.
+pub fn note(file: &[u8], reading: Reading, run: Run) -> NotedReading
+    ensures { λ r. ⌜ r ≡ notedReading (answerTo (fileCrest (now (file .entry))) reading) run ⌝ }
+    ensures paper { λ r. ⌜ paperOfReading (valueCount reading) (r .answer) ≡ notedPaper (readingPaper (fileCrest (now (file .entry))) reading) run ⌝ }
+{
+    let noted = answers::note_file(file, reading, run);
+    let answer = noted.answer;
+    let after = noted.run;
+    NotedReading {
+        answer,
+        display: readings::display::display(answer),
+        run: after,
+    }
+}

@@ -6,13 +6,15 @@ use records::refused;
 use sources::Form;
 use sources::count_in;
 use sources::record_in;
+ghost use mathlib.Core.List.{[]};
 ghost use mathlib.Core.Path.{_≡_};
-ghost use Rattle.model.specs.Answers.{readerOutcome, readerSpan, readerPart};
+ghost use Rattle.model.specs.Answers.{paperIf, paperOfOutcome, readerOutcome, readerSpan, readerPart};
 ghost use Rattle.alignment.specs.Lent.{Lent};
 
 // What the reader comes to: the refusals of the file, then 15 for a number that no record has.
 pub fn record_outcome(file: &[u8], r: usize) -> Outcome
     ensures { λ o. ⌜ o ≡ readerOutcome (now (file .entry)) r ⌝ }
+    ensures paper { λ o. ⌜ paperOfOutcome o ≡ paperIf (readerOutcome (now (file .entry)) r) [] ⌝ }
 {
     let none = &file[0..0];
     match check(file, none, Form::File) {

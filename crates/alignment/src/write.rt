@@ -7,8 +7,10 @@ use model::layout::BLOCK_SIZE;
 use model::refusals;
 use records::refused;
 use sources::Form;
+ghost use mathlib.Core.List.{[]};
 ghost use mathlib.Core.Path.{_≡_};
 ghost use lib.ListN.{length};
+ghost use Rattle.model.specs.Answers.{paperIf, paperOfOutcome};
 ghost use Rattle.model.specs.Writer.{writerOutcome, written};
 
 // 17, 4 to 9, 18: what the writer comes to, for room of this length.
@@ -29,6 +31,7 @@ fn outcome_of(records: &[u8], room: usize) -> Outcome
 pub fn write(records: &[u8], room: &mut [u8]) -> Outcome
     ensures { λ o. ⌜ o ≡ writerOutcome (now (records .entry)) (length (now (room .entry))) ⌝ }
     ensures { λ _. ⌜ now (room .exit) ≡ written (now (records .entry)) (now (room .entry)) ⌝ }
+    ensures paper { λ o. ⌜ paperOfOutcome o ≡ paperIf (writerOutcome (now (records .entry)) (length (now (room .entry)))) [] ⌝ }
 {
     match outcome_of(records, room.len()) {
         Outcome::Refused(x) => Outcome::Refused(x),

@@ -20,6 +20,7 @@ ghost use Rattle.model.specs.Records.{recordStart, recordBytes, countOf};
 ghost use Rattle.model.specs.Refusals.{rule₀, verdict, byteCount};
 ghost use Rattle.model.specs.Acceptance.{lengthFits, blocksRules};
 ghost use Rattle.crestfile.specs.BlockChecks.{blockRules, eachBlock};
+ghost use Rattle.model.specs.Answers.{paperIf, paperOfOutcome};
 
 // 1: a crest is 512, 1024, 1536 or 2048 bytes long.
 fn check_length(len: usize) -> Outcome
@@ -80,6 +81,7 @@ fn check_each(what: BlockCheck, file: &[u8]) -> Outcome
 // 1 to 3: of any bytes.
 pub fn check_blocks(file: &[u8]) -> Outcome
     ensures { λ o. ⌜ o ≡ verdict (blocksRules (now (file .entry))) ⌝ }
+    ensures paper { λ o. ⌜ paperOfOutcome o ≡ paperIf (verdict (blocksRules (now (file .entry)))) [] ⌝ }
 {
     match check_length(file.len()) {
         Outcome::Refused(length) => return Outcome::Refused(length),

@@ -13,7 +13,7 @@ use lib.Dec.{eqb, ltb}
 use borrow.Author.Tests.{eqb-true, eq-eqb}
 use lib.ListN.{length, take, drop, replicate, length-append}
 use lib.Seq.{take-append-seam, drop-append-seam}
-use lib.IntN.{ℤ, pos, natAbs}
+use lib.IntN.{ℤ, pos}
 use Rattle.model.specs.declared.Point.{Point}
 use Rattle.model.specs.declared.Refusal.{Refusal}
 use Rattle.model.specs.declared.Outcome.{Outcome}
@@ -29,24 +29,22 @@ use Rattle.model.specs.declared.ReadingAnswer.the-variants.{PlanePoint as Answe
 use Rattle.model.specs.Refusals.{Reason, lastNumber, askedOutOfRange, runFull, wrongRoom, Rule, number, refusal, rule₀, verdict}
 use Rattle.model.specs.Acceptance.{checked, crestRules}
 use Rattle.model.specs.Crest.{Crest, checkOf, fileCrest, SoundCrest}
-use Rattle.model.specs.Judged.{judged}
 use Rattle.model.specs.Records.{byteAt, recordBytes, countOf}
 use Rattle.model.specs.Writer.{writerRules, writerOutcome, roomAfter, written}
-use Rattle.model.specs.Answers.{code, paperOfOutcome, paperOfPlaced, paperOfLocated, paperOfInverse, paperOfMove, readerOutcome, spanIf, readerSpan, readerPart, stationRules, placedAfter, placed, pointRules, locatedAfter, located, lineRules, inverseAfter, inverse, moveOf, moveIf, moveRules, stakeOut}
+use Rattle.model.specs.Answers.{PaperAnswer, paperIf, code, paperOfOutcome, Question, answerAfter, paperAfter, readerOutcome, spanIf, readerSpan, readerPart, placed, paperOfPlaced, located, paperOfLocated, inverse, paperOfInverse, forwardOf, leftOf, moveRules, moveQuestion, stakeOut, paperOfMove}
 use Rattle.model.specs.Readings.{refusesReading, answerTo, valueCount, paperOfReading, zeroFloat, displayOf}
 use Rattle.model.specs.Run.{shownOf, isFull, runAt, runBytes, counted, acknowledged}
-use Rattle.model.specs.Calls.{readingCall, acknowledgeCall, checkCall, writeCall, moveBytes, stakeOutCall}
+use Rattle.model.specs.Calls.{readingCall, acknowledgeCall, checkCall, writeCall, moveSize, moveBytes, stakeOutCall}
 use Rattle.model.specs.Histories.{Call, read, acknowledge, Came, reading, AllCame, none, asked, acknowledged-next, afterCalls, bytesAfterCalls, freshBytes, demanded}
 use Rattle.model.proofs.Verdict.{reason-numbered, AllHold, more, Cause, order-outcome, refused→first, refused-before, done→all, all→done}
-use Rattle.model.proofs.Answers as answers
+use Rattle.model.proofs.Answers.{Tells, told-refused, told-paper, told-exactly, told-answered, station-tells, point-tells, place-tells, move-tells, reading-tells}
 use Rattle.readings.specs.Stored.{Storable}
-use Rattle.readings.proofs.Refused.{refuses-within, AsRead, answer-number, answer-as-read, Zeros, refusal-shows-zeros}
+use Rattle.readings.proofs.Refused.{refuses-within, AsRead, answer-as-read, Zeros, refusal-shows-zeros}
 use Rattle.readings.proofs.Calls.{reading-18, reading-16, reading-counted, not-counted-unchanged, acknowledge-18, acknowledge-0}
-use Rattle.walk_laws.proofs.Outcomes.{located-if-refused}
+use Rattle.walk_laws.proofs.Reasons.{first-holds, rest-hold}
 use Rattle.blocks.proofs.Bytes.{AllBytes}
 use Rattle.sources.proofs.Sound.{file-sound}
 use Rattle.answers.proofs.Storable.{answer-storable}
-use Rattle.demands.proofs.Orders.{placed-if-refused, inverse-if-refused, move-if-refused}
 use Rattle.demands.proofs.Histories.{ReadingsFit, bytes-spelled, bytes-follow-run, bytes-show-run, bytes-show-demanded, history-keeps, fresh-bytes-keep}
 use Rattle.demands.proofs.Lent.{Lending, Within, roomAfterAll, onRun, lent-history}
 
@@ -74,7 +72,7 @@ refused-numbered rs why e =
 
 -- a reading on a crest of any source is answered, or refused with one of the crest's own numbers or of 10 to 15
 pub any-reading : (c : Crest) → SoundCrest c → (r : Reading) (why : Refusal) → answerTo c r ≡ AnswerRefused why → refusesReading (why .number) ≡ true
-any-reading c sound r why e = answer-number c sound r e
+any-reading c sound r = answer-as-read c sound r
 
 -- ---- the other calls by value
 
@@ -91,46 +89,36 @@ unfolding readerOutcome
 any-record file r = refused-numbered (crestRules file ++ (rule₀ askedOutOfRange (ltb r (countOf (recordBytes file))) ∷ []))
 
 -- a position, a plane point, a line place and a stake-out by value
+any-question : {A : Type 0} {refused : Refusal → A} {paperOf : A → PaperAnswer} {q : Question A} → Tells refused paperOf q → (before : List Rule) (why : Refusal) → answerAfter before q ≡ refused why → Numbered why
+any-question {q = q} tells before why e = refused-numbered (before ++ q .order) why (told-exactly tells before why .0 e)
+
 pub any-position : (c : Crest) (s : ℤ) (why : Refusal) → placed c s ≡ PlacedRefused why → Numbered why
-unfolding placed placedAfter
-any-position c s why e =
-    let rules = c .rules ++ stationRules (c .elements) s in
-    refused-numbered rules why (placed-if-refused (verdict rules) (c .elements) (natAbs s) why .0 e)
+any-position c s = any-question (station-tells s (c .elements)) (c .rules)
 
 pub any-point : (c : Crest) (p : Point) (why : Refusal) → located c p ≡ LocatedRefused why → Numbered why
-unfolding located locatedAfter
-any-point c p why e =
-    let es = c .elements in
-    let rules = c .rules ++ pointRules es p (judged es p) in
-    refused-numbered rules why (located-if-refused (verdict rules) es p (judged es p) why .0 e)
+any-point c p = any-question (point-tells p (c .elements)) (c .rules)
 
 pub any-place : (c : Crest) (s w : ℤ) (why : Refusal) → inverse c s w ≡ InverseRefused why → Numbered why
-unfolding inverse inverseAfter
-any-place c s w why e =
-    let rules = c .rules ++ lineRules (c .elements) s w in
-    refused-numbered rules why (inverse-if-refused (verdict rules) (c .elements) s w why .0 e)
+any-place c s w = any-question (place-tells s w (c .elements)) (c .rules)
 
 pub any-stake-out : (own target : Point) (c s : ℤ) (why : Refusal) → stakeOut own target c s ≡ MoveRefused why → Numbered why
-unfolding stakeOut
-any-stake-out own target c s why e =
-    let rules = moveRules own target c s in
-    refused-numbered rules why (move-if-refused (verdict rules) own target c s why .0 e)
+any-stake-out own target c s = any-question (move-tells own target c s) []
 
 -- ---- "Every entry checks the alignment it is given."
 
 -- what refuses a crest refuses every question about it, with the same number and place
 module _ (c : Crest) (why : Refusal) (refused : checkOf c ≡ Refused why) where
   pub refused-crest-position : (s : ℤ) → placed c s ≡ PlacedRefused why
-  refused-crest-position s = answers.placed-refused c s refused
+  refused-crest-position s = told-refused (station-tells s (c .elements)) (c .rules) refused
 
   pub refused-crest-point : (p : Point) → located c p ≡ LocatedRefused why
-  refused-crest-point p = answers.located-refused c p refused
+  refused-crest-point p = told-refused (point-tells p (c .elements)) (c .rules) refused
 
   pub refused-crest-place : (s w : ℤ) → inverse c s w ≡ InverseRefused why
-  refused-crest-place s w = answers.inverse-refused c s w refused
+  refused-crest-place s w = told-refused (place-tells s w (c .elements)) (c .rules) refused
 
   pub refused-crest-reading : (r : Reading) → answerTo c r ≡ AnswerRefused why
-  refused-crest-reading r = answers.answer-refused c r refused
+  refused-crest-reading r = told-refused (reading-tells r (c .elements)) (c .rules) refused
 
 pub refused-file-record : (file : List ℕ) (why : Refusal) → checked file ≡ Refused why → (r : ℕ) → readerOutcome file r ≡ Refused why
 unfolding readerOutcome checked
@@ -194,10 +182,22 @@ returned rs = go (verdict rs) (refused-numbered rs)
     go Done numbered = inl refl
     go (Refused why) numbered = inr (why, numbered why refl, refl)
 
-pub move-code : (o : Outcome) (own target : Point) (c s : ℤ) → code (paperOfMove (moveIf o own target c s)) ≡ code (paperOfOutcome o)
-unfolding code paperOfMove paperOfOutcome moveIf moveOf
-move-code Done own target c s = refl
-move-code (Refused why) own target c s = refl
+-- of a question with the rules before its own
+paper-code : (o : Outcome) (values : List ℤ) → code (paperIf o values) ≡ code (paperOfOutcome o)
+unfolding code paperIf paperOfOutcome
+paper-code Done values = refl
+paper-code (Refused why) values = refl
+
+question-code : {A : Type 0} {refused : Refusal → A} {paperOf : A → PaperAnswer} {q : Question A} → Tells refused paperOf q → (before : List Rule) → code (paperOf (answerAfter before q)) ≡ code (paperOfOutcome (verdict (before ++ q .order)))
+unfolding paperAfter
+question-code {q = q} tells before = ap code (told-paper tells before) ∙ paper-code (verdict (before ++ q .order)) (q .values)
+
+abbrev pub stakeOutRules : Point → Point → ℤ → ℤ → List ℕ → List Rule
+stakeOutRules own target c s room = rule₀ wrongRoom (eqb (length room) moveSize) ∷ moveRules own target c s
+
+pub stake-out-code : (own target : Point) (c s : ℤ) (room : List ℕ) → stakeOutCall own target c s room .0 ≡ code (paperOfOutcome (verdict (stakeOutRules own target c s room)))
+unfolding stakeOutCall moveQuestion
+stake-out-code own target c s room = question-code (move-tells own target c s) (rule₀ wrongRoom (eqb (length room) moveSize) ∷ [])
 
 pub any-check-call : (c : Crest) → Returned (checkCall c)
 unfolding checkCall
@@ -208,10 +208,7 @@ unfolding writeCall writerOutcome
 any-write-call records room = returned (writerRules records (length room))
 
 pub any-stake-out-call : (own target : Point) (c s : ℤ) (room : List ℕ) → Returned (stakeOutCall own target c s room .0)
-unfolding stakeOutCall
-any-stake-out-call own target c s room =
-    let rules = rule₀ wrongRoom (eqb (length room) 8) ∷ moveRules own target c s in
-    subst Returned (sym (move-code (verdict rules) own target c s)) (returned rules)
+any-stake-out-call own target c s room = subst Returned (sym (stake-out-code own target c s room)) (returned (stakeOutRules own target c s room))
 
 -- the number of a refusal without a place
 number-returned : (why : Reason) → Returned (number why)
@@ -262,24 +259,14 @@ write-returns-0 records room = returns-0 (writerRules records (length room))
 
 -- where 8 bytes are lent and the move by value is not refused
 pub stake-out-returns-0 : (own target : Point) (c s : ℤ) (room : List ℕ) →
-    (stakeOutCall own target c s room .0 ≡ 0) ↔ ((length room ≡ 8) × (stakeOut own target c s ≡ moveOf own target c s))
-unfolding stakeOutCall stakeOut moveIf moveOf
-stake-out-returns-0 own target c s room = (
-  λ e. answered (done→all rules (returns-0 rules .0 (sym (move-code (verdict rules) own target c s) ∙ e))),
-  λ h.
-      let done = value (verdict (moveRules own target c s)) (h .1) in
-      move-code (verdict rules) own target c s ∙ returns-0 rules .1 (all→done (more (eq-eqb (length room) 8 (h .0)) (done→all (moveRules own target c s) done))),
-)
-  where
-    rules : List Rule
-    rules = rule₀ wrongRoom (eqb (length room) 8) ∷ moveRules own target c s
-
-    value : (o : Outcome) → moveIf o own target c s ≡ moveOf own target c s → o ≡ Done
-    value Done e = refl
-    value (Refused why) e = let z : _≡_ {A = ℕ} 0 1 = cc in absurd (omega arith)
-
-    answered : AllHold rules → (length room ≡ 8) × (moveIf (verdict (moveRules own target c s)) own target c s ≡ moveOf own target c s)
-    answered (more h a) = (eqb-true (length room) 8 h, ap (λ (o : Outcome). moveIf o own target c s) (all→done a))
+    (stakeOutCall own target c s room .0 ≡ 0) ↔ ((length room ≡ 8) × (stakeOut own target c s ≡ By (forwardOf own target c s) (leftOf own target c s)))
+unfolding moveQuestion
+stake-out-returns-0 own target c s room =
+    let rules = stakeOutRules own target c s room in
+    let answered = told-answered (move-tells own target c s) [] in (
+      (λ e. let h = done→all rules (returns-0 rules .0 (sym (stake-out-code own target c s room) ∙ e)) in (eqb-true (length room) 8 (first-holds h), answered .1 (all→done (rest-hold h)))),
+      (λ h. stake-out-code own target c s room ∙ returns-0 rules .1 (all→done (more (eq-eqb (length room) 8 (h .0)) (done→all (moveRules own target c s) (answered .0 (h .1)))))),
+    )
 
 -- a reading that is refused does not return 0
 pub refused-reading-returns : {a : ReadingAnswer} → Came a → (why : Refusal) → a ≡ AnswerRefused why → code (paperOfReading 0 a) ≡ 0 → ⊥
@@ -350,7 +337,7 @@ refused-write-unchanged records room = go (writerOutcome records (length room))
 
 pub refused-stake-out-unchanged : (own target : Point) (c s : ℤ) (room : List ℕ) → (stakeOutCall own target c s room .0 ≡ 0 → ⊥) → stakeOutCall own target c s room .1 ≡ room
 unfolding stakeOutCall moveBytes code paperOfMove
-refused-stake-out-unchanged own target c s room = go (moveIf (verdict (rule₀ wrongRoom (eqb (length room) 8) ∷ moveRules own target c s)) own target c s)
+refused-stake-out-unchanged own target c s room = go (answerAfter (rule₀ wrongRoom (eqb (length room) moveSize) ∷ []) (moveQuestion own target c s))
   where
     go : (m : Move) → (code (paperOfMove m) ≡ 0 → ⊥) → moveBytes m room ≡ room
     go (By forward left) h = absurd (h refl)

@@ -25,7 +25,7 @@ use Rattle.model.specs.Stations.{total, distanceSq, D}
 use Rattle.model.specs.Judged.{judged, residualAt}
 use Rattle.model.specs.Walk.{firstVisits, bestOf, secondVisits, visits, isIn}
 use Rattle.model.specs.Answers.{locatedOn, located}
-use Rattle.model.proofs.Answers as answers
+use Rattle.model.proofs.Answers.{told-refused, point-tells}
 use Rattle.model.proofs.Judged.{judged-least}
 use Rattle.walk_laws.proofs.Spaced as spaced
 use Rattle.walk_laws.proofs.Walked as walked
@@ -91,7 +91,7 @@ module _ (c : Crest) (sound : SoundCrest c) (p : Point) where
 
   -- a crest that is refused gives its own refusal
   pub refused-crest : (why : Refusal) → checkOf c ≡ Refused why → located c p ≡ LocatedRefused why
-  refused-crest why e = answers.located-refused c p e
+  refused-crest why e = told-refused (point-tells p (c .elements)) (c .rules) e
 
   pub crest-answer-of-walk : (station : ℕ) (offset residual : ℤ) (count : ℕ) → located c p ≡ LocatedAt station offset residual count →
       (station ≡ judged (c .elements) p) × (count ≡ length (firstVisits (total (c .elements))) + length (secondVisits (c .elements) p))

@@ -5,8 +5,7 @@ use mathlib.Core.Bool.{Bool, true, false}
 use mathlib.Core.List.{List, [], _∷_, _++_}
 use mathlib.Core.Path.{_≡_, refl, sym, _∙_}
 use native.Mathlib.Omega.{arith}
-use lib.IntN.{ℤ, natAbs}
-use Rattle.model.specs.declared.Element.{Element}
+use lib.IntN.{ℤ}
 use Rattle.model.specs.declared.Point.{Point}
 use Rattle.model.specs.declared.Refusal.{Refusal}
 use Rattle.model.specs.declared.Outcome.{Outcome}
@@ -16,20 +15,17 @@ use Rattle.model.specs.declared.Located.the-variants.{Refused as LocatedRefused
 use Rattle.model.specs.declared.Inverse.the-variants.{Refused as InverseRefused}
 use Rattle.model.specs.declared.Move.the-variants.{Refused as MoveRefused}
 use Rattle.model.specs.declared.Reading.{Reading}
-use Rattle.model.specs.declared.Reading.the-variants.{PlanePoint, LinePlace}
 use Rattle.model.specs.declared.ReadingAnswer.the-variants.{Refused as AnswerRefused}
 use Rattle.model.specs.Refusals.{Reason, Rule, number, rule₀, Gives, orRefused, refusal, verdict, checksum, blockField}
 use Rattle.model.specs.Records.{recordBytes, blockCount}
 use Rattle.model.specs.Acceptance.{sumRules, fieldRules, blocksRules, crestRules}
 use Rattle.model.specs.Crest.{Crest, checkOf, isOwn}
 use Rattle.model.specs.Writer.{writerRules, writerOutcome}
-use Rattle.model.specs.Answers.{readerOutcome, stationRules, placedAfter, placed, pointRules, locatedIf, locatedAfter, located, lineRules, inverseAfter, inverse, moveRules, stakeOut}
-use Rattle.model.specs.Judged.{judged}
-use Rattle.model.specs.Readings.{numberRules, wholeOf, valueOf, answerAfter, answerTo}
+use Rattle.model.specs.Answers.{PaperAnswer, Question, answerAfter, readerOutcome, placed, located, inverse, stakeOut}
+use Rattle.model.specs.Readings.{answerTo}
 use Rattle.model.proofs.RuleNumbers.{records-own}
-use Rattle.walk_laws.proofs.Outcomes.{located-if-refused}
+use Rattle.model.proofs.Answers.{Bare, none as bare-none, next as bare-next, Tells, told-exactly, station-tells, point-tells, place-tells, move-tells, reading-tells}
 use Rattle.walk_laws.proofs.Reasons.{Lacks, empty, other, lacks-other}
-use Rattle.demands.proofs.Orders.{placed-if-refused, inverse-if-refused, move-if-refused, point-refused, place-refused}
 use Rattle.demands.proofs.Places.{lacks-rule, lacks-forEach}
 use Rattle.demands.proofs.RecordRefusals.{records-lack}
 
@@ -64,19 +60,13 @@ given-at-0 {w} (next {r} {rs} h k) e = go (given-at-0 k) (r .holds) e
 bare : {why : Reason} {b : Bool} {n : ℕ} {rs : List Rule} → At0 n rs → At0 n (rule₀ why b ∷ rs)
 bare k = next (λ e. refl) k
 
-module _ (before : List Rule) (es : List Element) (w : Refusal) (k : At0 (w .number) before) where
-  point-at-0 : (p : Point) → locatedAfter before es p ≡ LocatedRefused w → w .place ≡ 0
-  unfolding locatedAfter pointRules
-  point-at-0 p e =
-      let s = judged es p in
-      let z : At0 (w .number) (before ++ pointRules es p s) = at-0-++ k (bare (bare (bare (bare none)))) in
-      given-at-0 z (located-if-refused (verdict (before ++ pointRules es p s)) es p s w .0 e)
+bare-at-0 : {n : ℕ} {rs : List Rule} → Bare rs → At0 n rs
+bare-at-0 bare-none = none
+bare-at-0 (bare-next e k) = next (λ _. e) (bare-at-0 k)
 
-  line-at-0 : (s o : ℤ) → inverseAfter before es s o ≡ InverseRefused w → w .place ≡ 0
-  unfolding inverseAfter lineRules
-  line-at-0 s o e =
-      let z : At0 (w .number) (before ++ lineRules es s o) = at-0-++ k (bare (bare none)) in
-      given-at-0 z (inverse-if-refused (verdict (before ++ lineRules es s o)) es s o w .0 e)
+-- a question whose own rules have none, after others
+question-at-0 : {A : Type 0} {refused : Refusal → A} {paperOf : A → PaperAnswer} {q : Question A} → Tells refused paperOf q → (before : List Rule) {w : Refusal} → At0 (w .number) before → answerAfter before q ≡ refused w → w .place ≡ 0
+question-at-0 tells before {w} k e = given-at-0 (at-0-++ k (bare-at-0 (tells .bare))) (told-exactly tells before w .0 e)
 
 -- ---- "else": the numbers to which a crest gives no place
 
@@ -101,25 +91,16 @@ module _ (c : Crest) (w : Refusal) (k : At0 (w .number) (c .rules)) where
   check-else-0 e = given-at-0 k e
 
   pub position-else-0 : (s : ℤ) → placed c s ≡ PlacedRefused w → w .place ≡ 0
-  unfolding placed placedAfter stationRules
-  position-else-0 s e = given-at-0 (at-0-++ k (bare none)) (placed-if-refused _ _ (natAbs s) w .0 e)
+  position-else-0 s e = question-at-0 (station-tells s (c .elements)) (c .rules) k e
 
   pub point-else-0 : (p : Point) → located c p ≡ LocatedRefused w → w .place ≡ 0
-  unfolding located
-  point-else-0 p e = point-at-0 (c .rules) (c .elements) w k p e
+  point-else-0 p e = question-at-0 (point-tells p (c .elements)) (c .rules) k e
 
   pub place-else-0 : (s o : ℤ) → inverse c s o ≡ InverseRefused w → w .place ≡ 0
-  unfolding inverse
-  place-else-0 s o e = line-at-0 (c .rules) (c .elements) w k s o e
+  place-else-0 s o e = question-at-0 (place-tells s o (c .elements)) (c .rules) k e
 
   pub reading-else-0 : (r : Reading) → answerTo c r ≡ AnswerRefused w → w .place ≡ 0
-  unfolding answerTo answerAfter numberRules
-  reading-else-0 (PlanePoint x y) e =
-      let z : At0 (w .number) (c .rules ++ numberRules x y) = at-0-++ k (bare none) in
-      point-at-0 (c .rules ++ numberRules x y) (c .elements) w z (record { x = valueOf (wholeOf x); y = valueOf (wholeOf y) }) (point-refused _ w .0 e)
-  reading-else-0 (LinePlace station offset) e =
-      let z : At0 (w .number) (c .rules ++ numberRules station offset) = at-0-++ k (bare none) in
-      line-at-0 (c .rules ++ numberRules station offset) (c .elements) w z (valueOf (wholeOf station)) (valueOf (wholeOf offset)) (place-refused _ w .0 e)
+  reading-else-0 r e = question-at-0 (reading-tells r (c .elements)) (c .rules) k e
 
 -- the reader of a file likewise
 pub record-else-0 : (file : List ℕ) (w : Refusal) → At0 (w .number) (crestRules file) → (r : ℕ) → readerOutcome file r ≡ Refused w → w .place ≡ 0
@@ -135,7 +116,4 @@ write-else-0 records room w h e =
 
 -- a stake-out's 11 and 7: it has no record
 pub stake-out-0 : (own target : Point) (c s : ℤ) (w : Refusal) → stakeOut own target c s ≡ MoveRefused w → w .place ≡ 0
-unfolding stakeOut moveRules
-stake-out-0 own target c s w e =
-    let z : At0 (w .number) (moveRules own target c s) = bare (bare (bare none)) in
-    given-at-0 z (move-if-refused (verdict (moveRules own target c s)) own target c s w .0 e)
+stake-out-0 own target c s w e = question-at-0 (move-tells own target c s) [] none e

@@ -1,29 +1,13 @@
--- From the outcome of an order of refusals to the answer: an answer is a refusal exactly when the order's outcome is, and after a crest's own rules, whatever its source,
--- a rule that alone gives its number is the first to fail exactly when that number is given.
+-- After a crest's own rules, whatever its source, a rule that alone gives its number is the first to fail exactly when that number is given.
 use Prim.Native.Nat.{ℕ}
 use mathlib.Core.Bool.{Bool, true, false, _&&_, false≢true}
 use mathlib.Core.List.{List, [], _∷_, _++_, append-assoc}
 use mathlib.Core.Logic.{_⊎_, inl, inr, _↔_, Iff·trans}
-use mathlib.Core.Path.{_≡_, refl, sym}
-use native.Mathlib.Omega.{arith}
-use lib.IntN.{ℤ}
-use Rattle.model.specs.declared.Element.{Element}
-use Rattle.model.specs.declared.Point.{Point}
-use Rattle.model.specs.declared.Refusal.{Refusal}
-use Rattle.model.specs.declared.Outcome.{Outcome}
+use mathlib.Core.Path.{_≡_, refl, sym, ap}
 use Rattle.model.specs.declared.Outcome.the-variants.{Done, Refused}
-use Rattle.model.specs.declared.Placed.the-variants.{Refused as PlacedRefused}
-use Rattle.model.specs.declared.Located.{Located}
-use Rattle.model.specs.declared.Located.the-variants.{At as LocatedAt, Refused as LocatedRefused}
-use Rattle.model.specs.declared.Inverse.{Inverse}
-use Rattle.model.specs.declared.Inverse.the-variants.{At as InverseAt, Refused as InverseRefused}
-use Rattle.model.specs.declared.Move.the-variants.{Refused as MoveRefused}
-use Rattle.model.specs.declared.ReadingAnswer.the-variants.{Refused as AnswerRefused}
 use Rattle.model.specs.Refusals.{Reason, Rule, number, refusal, rule, Gives, orRefused, verdict}
 use Rattle.model.specs.Crest.{Crest, checkOf, isOwn}
-use Rattle.model.specs.Answers.{placedIf, inverseIf, moveOf, moveIf}
-use Rattle.model.specs.Readings.{fromLocated, fromInverse}
-use Rattle.model.proofs.Verdict.{AllHold, none, done→all, all→done}
+use Rattle.model.proofs.Verdict.{AllHold, none, done→all, all→done, verdict-after}
 use Rattle.crestfile.proofs.ForEach.{all-append, append-all}
 use Rattle.walk_laws.proofs.Reasons.{Lacks, empty, lacks-++, lacks-other, given-exactly}
 
@@ -37,34 +21,6 @@ and-fails true b = ((λ e. inr e), go)
     go (inr e) = e
 and-fails false b = ((λ e. inl refl), (λ e. refl))
 
--- ---- the answer is refused exactly when the outcome of its order is
-
-pub placed-if-refused : (o : Outcome) (es : List Element) (s : ℕ) (w : Refusal) → (placedIf o es s ≡ PlacedRefused w) ↔ (o ≡ Refused w)
-unfolding placedIf
-placed-if-refused Done es s w = ((λ e. let z : _≡_ {A = ℕ} 0 1 = cc in absurd (omega arith)), (λ e. let z : _≡_ {A = ℕ} 0 1 = cc in absurd (omega arith)))
-placed-if-refused (Refused r) es s w = ((λ e. cc), (λ e. cc))
-
-pub inverse-if-refused : (o : Outcome) (es : List Element) (s w : ℤ) (why : Refusal) → (inverseIf o es s w ≡ InverseRefused why) ↔ (o ≡ Refused why)
-unfolding inverseIf
-inverse-if-refused Done es s w why = ((λ e. let z : _≡_ {A = ℕ} 0 1 = cc in absurd (omega arith)), (λ e. let z : _≡_ {A = ℕ} 0 1 = cc in absurd (omega arith)))
-inverse-if-refused (Refused r) es s w why = ((λ e. cc), (λ e. cc))
-
-pub move-if-refused : (o : Outcome) (own target : Point) (c s : ℤ) (w : Refusal) → (moveIf o own target c s ≡ MoveRefused w) ↔ (o ≡ Refused w)
-unfolding moveIf moveOf
-move-if-refused Done own target c s w = ((λ e. let z : _≡_ {A = ℕ} 0 1 = cc in absurd (omega arith)), (λ e. let z : _≡_ {A = ℕ} 0 1 = cc in absurd (omega arith)))
-move-if-refused (Refused r) own target c s w = ((λ e. cc), (λ e. cc))
-
--- a reading's answer, by that of its question
-pub point-refused : (l : Located) (w : Refusal) → (fromLocated l ≡ AnswerRefused w) ↔ (l ≡ LocatedRefused w)
-unfolding fromLocated
-point-refused (LocatedAt station offset residual visits) w = ((λ e. let z : _≡_ {A = ℕ} 0 1 = cc in absurd (omega arith)), (λ e. let z : _≡_ {A = ℕ} 0 1 = cc in absurd (omega arith)))
-point-refused (LocatedRefused r) w = ((λ e. cc), (λ e. cc))
-
-pub place-refused : (i : Inverse) (w : Refusal) → (fromInverse i ≡ AnswerRefused w) ↔ (i ≡ InverseRefused w)
-unfolding fromInverse
-place-refused (InverseAt x y) w = ((λ e. let z : _≡_ {A = ℕ} 0 1 = cc in absurd (omega arith)), (λ e. let z : _≡_ {A = ℕ} 0 1 = cc in absurd (omega arith)))
-place-refused (InverseRefused r) w = ((λ e. cc), (λ e. cc))
-
 -- ---- the first rule that fails
 
 -- two rules in a row with one refusal are one
@@ -72,6 +28,12 @@ pub two-rules : (why : Reason) (place : ℕ) (a b : Bool) (rs : List Rule) → v
 unfolding verdict orRefused
 two-rules why place true b rs = refl
 two-rules why place false b rs = refl
+
+-- rules that hold decide nothing
+pub held-between : (rs ss ts : List Rule) → verdict ss ≡ Done → verdict (rs ++ (ss ++ ts)) ≡ verdict (rs ++ ts)
+unfolding verdict
+held-between [] ss ts e = verdict-after ss ts e
+held-between (r ∷ rs) ss ts e = ap (orRefused (r .holds) (r .why) (r .place)) (held-between rs ss ts e)
 
 module _ (r : Rule) (after : List Rule) (l : Lacks (number (r .why)) after) where
   -- at the head of an order

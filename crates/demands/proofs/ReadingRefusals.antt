@@ -2,7 +2,7 @@
 -- whole numbers is answered and refused as its point or its place is, since the rule of its numbers stands between the crest's own rules and those of the question.
 use Prim.Native.Nat.{ℕ, _+_, _*_, _≤_, _<_}
 use mathlib.Core.Bool.{true, false, _&&_, false≢true, and-false, and-eq-true-iff}
-use mathlib.Core.List.{List, [], _∷_, _++_, append-assoc}
+use mathlib.Core.List.{List, _++_, append-assoc}
 use mathlib.Core.Logic.{_≢_, _⊎_, ⊎-map, _↔_, Iff·rfl, Iff·trans, Iff·and}
 use mathlib.Core.Path.{_≡_, refl, sym, _∙_, ap, ap₂}
 use native.Mathlib.Nat.{add-zero}
@@ -15,7 +15,6 @@ use lib.ListN.{length}
 use Rattle.model.specs.declared.Element.{Element}
 use Rattle.model.specs.declared.Point.{Point}
 use Rattle.model.specs.declared.Refusal.{Refusal}
-use Rattle.model.specs.declared.Outcome.{Outcome}
 use Rattle.model.specs.declared.Outcome.the-variants.{Done, Refused}
 use Rattle.model.specs.declared.Located.{Located}
 use Rattle.model.specs.declared.Located.the-variants.{At as LocatedAt, Refused as LocatedRefused}
@@ -23,22 +22,22 @@ use Rattle.model.specs.declared.Inverse.the-variants.{Refused as InverseRefused
 use Rattle.model.specs.declared.Reading.the-variants.{PlanePoint, LinePlace}
 use Rattle.model.specs.declared.ReadingAnswer.{ReadingAnswer}
 use Rattle.model.specs.declared.ReadingAnswer.the-variants.{PlanePoint as AnswerPoint, LinePlace as AnswerPlace, Refused as AnswerRefused}
-use Rattle.model.specs.Refusals.{Reason, Rule, number, refusal, notWhole, outsideFrame, tooFar, beforeStart, afterEnd, askedOutOfRange, rule₀, Gives, orRefused, verdict}
+use Rattle.model.specs.Refusals.{Reason, number, refusal, notWhole, outsideFrame, tooFar, beforeStart, afterEnd, askedOutOfRange, rule₀, Gives, verdict}
 use Rattle.model.specs.Acceptance.{inFrame}
 use Rattle.model.specs.Crest.{Crest, checkOf, isOwn, SoundCrest}
 use Rattle.model.specs.Stations.{isStation}
-use Rattle.model.specs.Judged.{judged}
-use Rattle.model.specs.Answers.{code, pointRules, locatedIf, locatedAfter, located, inverseAt, lineRules, inverseIf, inverseAfter, inverse}
-use Rattle.model.specs.Readings.{Whole, whole, none, wholeOf, isWhole, valueOf, numberRules, fromLocated, fromInverse, answerAfter, answerTo, paperOfReading}
+use Rattle.model.specs.Answers.{PaperAnswer, code, Question, answerIf, answerAfter, pointRules, pointQuestion, located, inverseAt, lineRules, placeQuestion, inverse}
+use Rattle.model.specs.Readings.{Whole, whole, none, wholeOf, isWhole, valueOf, numberRules, fromLocated, fromInverse, numberedQuestion, readingQuestion, answerTo, paperOfReading}
 use Rattle.model.specs.Run.{isFull, runAt}
 use Rattle.model.specs.Calls.{readingCall}
 use Rattle.model.specs.Histories.{Came, reading}
 use Rattle.model.proofs.Verdict.{done→all, all→done, reason-numbered}
+use Rattle.model.proofs.Answers.{rules-hold, Tells, told-exactly, told-later, point-tells, place-tells, reading-tells, numbered, plane-asked}
 use Rattle.crestfile.proofs.ForEach.{append-all, all-append, holds-one, one-holds}
-use Rattle.walk_laws.proofs.Outcomes.{TooFar, BeforeStart, AfterEnd, Answered, located-if-refused, crest-answered, crest-outside-frame, crest-too-far, crest-before-start, crest-after-end}
+use Rattle.walk_laws.proofs.Outcomes.{TooFar, BeforeStart, AfterEnd, Answered, crest-answered, crest-outside-frame, crest-too-far, crest-before-start, crest-after-end}
 use Rattle.walk_laws.proofs.Reasons.{Lacks, empty, other, lacks-++, lacks-other, lacks→not-given}
 use Rattle.readings.proofs.Calls.{reading-counted}
-use Rattle.demands.proofs.Orders.{and-fails, point-refused, place-refused, inverse-if-refused, next-after-crest}
+use Rattle.demands.proofs.Orders.{and-fails, held-between, next-after-crest}
 use Rattle.demands.proofs.Places.{first-part, second-part}
 use Rattle.demands.proofs.Demand1.{Numbered, came-numbered, ReadingEnds, no-run, run-full, counts, any-reading-call}
 use Rattle.demands.proofs.RefusalTable.{place-refused-11, place-refused-15}
@@ -69,6 +68,8 @@ abbrev pub OutsideAsked : List Element → ℤ → ℤ → Type 0
 OutsideAsked es s w =
     ((isStation es s ≡ true) × (natAbs w ≤ 20000000)) × (inFrame (inverseAt es (natAbs s) w .x) (inverseAt es (natAbs s) w .y) ≡ false)
 
+-- ---- a reading of two numbers on a crest, whatever it asks: the rule of its numbers stands between the crest's own rules and those of the question q
+
 module _ (c : Crest) (own : Gives isOwn (c .rules)) (x y : Float) where
   numbers-hold : (verdict (c .rules ++ numberRules x y) ≡ Done) ↔ ((checkOf c ≡ Done) × BothWhole x y)
   unfolding numberRules
@@ -78,194 +79,154 @@ module _ (c : Crest) (own : Gives isOwn (c .rules)) (x y : Float) where
         (λ h. all→done (all-append (done→all (c .rules) (h .0)) (one-holds (both .1 (h .1))))),
       )
 
-  -- rules of which none gives the number stand between the crest's own and the question's
-  between : (question : List Rule) (w : Refusal) → isOwn (w .number) ≡ false → w .number ≢ 10 →
-      (verdict ((c .rules ++ numberRules x y) ++ question) ≡ Refused w) ↔ (BothWhole x y × (verdict (c .rules ++ question) ≡ Refused w))
-  unfolding numberRules number
-  between question w later other-number =
-      let lacks = lacks-other own later in
-      let all = second-part (c .rules ++ numberRules x y) question w (lacks-++ lacks (other (λ e. other-number (sym e)) empty)) in
-      let some = second-part (c .rules) question w lacks in (
-        (λ e. let a = all .0 e in let h = numbers-hold .0 (a .0) in (h .1, some .1 (h .0, a .1))),
-        (λ z. let a = some .0 (z .1) in all .1 (numbers-hold .1 (a .0, z .0), a .1)),
-      )
+  not-own : {n : ℕ} (why : Reason) → isOwn n ≡ true → isOwn (number why) ≡ false → number why ≢ n
+  not-own why own-number later e = false≢true (sym later ∙ ap isOwn e ∙ own-number)
 
-  -- a plane point of two whole numbers is refused as the point of these numbers is
-  pub point-refused-as : (w : Refusal) → isOwn (w .number) ≡ false → w .number ≢ 10 →
-      (answerTo c (PlanePoint x y) ≡ AnswerRefused w) ↔ (BothWhole x y × (located c (pointOf x y) ≡ LocatedRefused w))
-  unfolding answerTo answerAfter locatedAfter located
-  point-refused-as w later other-number =
-      let es = c .elements in
-      let p = pointOf x y in
-      let s = judged es p in
-      let question = pointRules es p s in
-      let here = located-if-refused (verdict (c .rules ++ question)) es p s w in
-      Iff·trans
-      (point-refused (locatedIf (verdict ((c .rules ++ numberRules x y) ++ question)) es p s) w)
-      (Iff·trans
-      (located-if-refused (verdict ((c .rules ++ numberRules x y) ++ question)) es p s w)
-      (Iff·trans (between question w later other-number) ((λ z. (z .0, here .1 (z .1))), (λ z. (z .0, here .0 (z .1))))))
+  module _ {A : Type 0} {refused : Refusal → A} {paperOf : A → PaperAnswer} {paper : ReadingAnswer → PaperAnswer} (from : A → ReadingAnswer) (q : Question A) (tells : Tells refused paperOf q)
+      (asks : Tells AnswerRefused paper (numberedQuestion x y from q)) where
+    abbrev came : ReadingAnswer
+    came = answerAfter (c .rules) (numberedQuestion x y from q)
 
-  -- and a line place as the place of these numbers is
-  pub place-refused-as : (w : Refusal) → isOwn (w .number) ≡ false → w .number ≢ 10 →
-      (answerTo c (LinePlace x y) ≡ AnswerRefused w) ↔ (BothWhole x y × (inverse c (valueOf (wholeOf x)) (valueOf (wholeOf y)) ≡ InverseRefused w))
-  unfolding answerTo answerAfter inverseAfter inverse
-  place-refused-as w later other-number =
-      let es = c .elements in
-      let s = valueOf (wholeOf x) in
-      let o = valueOf (wholeOf y) in
-      let question = lineRules es s o in
-      let here = inverse-if-refused (verdict (c .rules ++ question)) es s o w in
-      Iff·trans
-      (place-refused (inverseIf (verdict ((c .rules ++ numberRules x y) ++ question)) es s o) w)
-      (Iff·trans
-      (inverse-if-refused (verdict ((c .rules ++ numberRules x y) ++ question)) es s o w)
-      (Iff·trans (between question w later other-number) ((λ z. (z .0, here .1 (z .1))), (λ z. (z .0, here .0 (z .1))))))
+    -- refused exactly when its order is
+    came-refused : (w : Refusal) → (came ≡ AnswerRefused w) ↔ (verdict (c .rules ++ (numberRules x y ++ q .order)) ≡ Refused w)
+    unfolding numberedQuestion
+    came-refused w = told-exactly asks (c .rules) w
 
-  -- ---- what is not refused: a reading of whole numbers comes to what its point or its place does
+    -- with a number that neither the crest nor the rule of its numbers gives: as the question is
+    refused-as : (w : Refusal) → isOwn (w .number) ≡ false → w .number ≢ 10 → (came ≡ AnswerRefused w) ↔ (BothWhole x y × (answerAfter (c .rules) q ≡ refused w))
+    unfolding numberRules number
+    refused-as w later other-number =
+        let lacks = lacks-other own later in
+        let all = rw (append-assoc (c .rules) (numberRules x y) (q .order)) at (second-part (c .rules ++ numberRules x y) (q .order) w (lacks-++ lacks (other (λ e. other-number (sym e)) empty))) in
+        let some = Iff·trans (told-exactly tells (c .rules) w) (second-part (c .rules) (q .order) w lacks) in
+        Iff·trans (Iff·trans (came-refused w) all) (
+          (λ a. let h = numbers-hold .0 (a .0) in (h .1, some .1 (h .0, a .1))),
+          (λ z. let a = some .0 (z .1) in (numbers-hold .1 (a .0, z .0), a .1)),
+        )
 
-  between-done : BothWhole x y → (question : List Rule) → verdict ((c .rules ++ numberRules x y) ++ question) ≡ verdict (c .rules ++ question)
-  unfolding numberRules verdict orRefused
-  between-done h question =
-      let both = and-eq-true-iff (isWhole (wholeOf x)) (isWhole (wholeOf y)) .1 h in
-      ap verdict (append-assoc (c .rules) (numberRules x y) question) ∙ held-between (c .rules) (rw both)
-    where
-      held-between : (rs : List Rule) → verdict (numberRules x y ++ question) ≡ verdict question → verdict (rs ++ (numberRules x y ++ question)) ≡ verdict (rs ++ question)
-      held-between [] e = e
-      held-between (r ∷ rs) e = ap (orRefused (r .holds) (r .why) (r .place)) (held-between rs e)
+    -- and what makes the question be refused so
+    given-as : (why : Reason) {C : Type 0} → isOwn (number why) ≡ false → number why ≢ 10 → ((answerAfter (c .rules) q ≡ refused (refusal why 0)) ↔ ((checkOf c ≡ Done) × C)) → (came ≡ AnswerRefused (refusal why 0)) ↔ ((checkOf c ≡ Done) × BothWhole x y × C)
+    unfolding refusal
+    given-as why later other-number given =
+        Iff·trans (refused-as (refusal why 0) later other-number) (
+          (λ z. let g = given .0 (z .1) in (g .0, z .0, g .1)),
+          (λ z. (z .1, given .1 (z .0, z .2))),
+        )
 
+    -- with a crest's own number: as the crest is
+    refused-own : (w : Refusal) → isOwn (w .number) ≡ true → Lacks (w .number) (q .order) → (came ≡ AnswerRefused w) ↔ (checkOf c ≡ Refused w)
+    unfolding numberRules number isOwn
+    refused-own w own-number lacks = Iff·trans (came-refused w) (first-part (c .rules) (numberRules x y ++ q .order) w (lacks-++ (other (not-own notWhole own-number refl) empty) lacks))
+
+    -- with 10: where a number is not whole
+    refused-10 : Lacks 10 (q .order) → (came ≡ AnswerRefused (refusal notWhole 0)) ↔ ((checkOf c ≡ Done) × ((wholeOf x ≡ none) ⊎ (wholeOf y ≡ none)))
+    unfolding numberRules number isOwn
+    refused-10 lacks =
+        Iff·trans (came-refused (refusal notWhole 0))
+        (Iff·trans (next-after-crest (rule₀ notWhole (isWhole (wholeOf x) && isWhole (wholeOf y))) (q .order) lacks c own refl) (Iff·and Iff·rfl (not-both-whole (wholeOf x) (wholeOf y))))
+
+    -- with a number that no rule gives: never
+    never-refused : (w : Refusal) → isOwn (w .number) ≡ false → w .number ≢ 10 → Lacks (w .number) (q .order) → came ≢ AnswerRefused w
+    unfolding numberRules number
+    never-refused w later other-number lacks e = lacks→not-given (lacks-++ (lacks-other own later) (lacks-++ (other (λ f. other-number (sym f)) empty) lacks)) (came-refused w .0 e)
+
+    -- of whole numbers it comes to what the question does
+    came-as : ((why : Refusal) → from (q .refused why) ≡ AnswerRefused why) → BothWhole x y → came ≡ from (answerAfter (c .rules) q)
+    unfolding answerAfter numberRules
+    came-as refuses h =
+        let hold = all→done (one-holds (and-eq-true-iff (isWhole (wholeOf x)) (isWhole (wholeOf y)) .1 h)) in
+        numbered x y from q refuses (c .rules)
+        ∙ ap (λ o. from (answerIf o q)) (ap verdict (append-assoc (c .rules) (numberRules x y) (q .order)) ∙ held-between (c .rules) (numberRules x y) (q .order) hold)
+
+-- ---- of a plane point and of a line place
+
+module _ (c : Crest) (own : Gives isOwn (c .rules)) (x y : Float) where
+  abbrev es : List Element
+  es = c .elements
+
+  -- of whole numbers, as the point and as the place of these numbers
+  abbrev s : ℤ
+  s = valueOf (wholeOf x)
+
+  abbrev w : ℤ
+  w = valueOf (wholeOf y)
+
+  -- of whole numbers it is refused as the point or the place of these numbers is
+  pub point-refused-as : (why : Refusal) → isOwn (why .number) ≡ false → why .number ≢ 10 → (answerTo c (PlanePoint x y) ≡ AnswerRefused why) ↔ (BothWhole x y × (located c (pointOf x y) ≡ LocatedRefused why))
+  unfolding readingQuestion
+  point-refused-as = refused-as c own x y fromLocated _ (point-tells (pointOf x y) es) (reading-tells (PlanePoint x y) es)
+
+  pub place-refused-as : (why : Refusal) → isOwn (why .number) ≡ false → why .number ≢ 10 → (answerTo c (LinePlace x y) ≡ AnswerRefused why) ↔ (BothWhole x y × (inverse c s w ≡ InverseRefused why))
+  unfolding readingQuestion
+  place-refused-as = refused-as c own x y fromInverse _ (place-tells s w es) (reading-tells (LinePlace x y) es)
+
+  -- and comes to what that does
   pub point-reading : BothWhole x y → answerTo c (PlanePoint x y) ≡ fromLocated (located c (pointOf x y))
-  unfolding answerTo answerAfter locatedAfter located
-  point-reading h =
-      let es = c .elements in
-      let p = pointOf x y in
-      let s = judged es p in
-      ap (λ o. fromLocated (locatedIf o es p s)) (between-done h (pointRules es p s))
+  unfolding readingQuestion pointQuestion fromLocated
+  point-reading = came-as c own x y fromLocated _ (point-tells (pointOf x y) es) (reading-tells (PlanePoint x y) es) (λ why. refl)
 
-  pub place-reading : BothWhole x y → answerTo c (LinePlace x y) ≡ fromInverse (inverse c (valueOf (wholeOf x)) (valueOf (wholeOf y)))
-  unfolding answerTo answerAfter inverseAfter inverse
-  place-reading h =
-      let es = c .elements in
-      let s = valueOf (wholeOf x) in
-      let o = valueOf (wholeOf y) in
-      ap (λ v. fromInverse (inverseIf v es s o)) (between-done h (lineRules es s o))
-
-  answered-done : (o : Outcome) (es : List Element) (p : Point) (s : ℕ) {station : ℕ} {offset residual : ℤ} {count : ℕ} → locatedIf o es p s ≡ LocatedAt station offset residual count → o ≡ Done
-  unfolding locatedIf
-  answered-done Done es p s e = refl
-  answered-done (Refused w) es p s e = let z : _≡_ {A = ℕ} 0 1 = cc in absurd (omega arith)
+  pub place-reading : BothWhole x y → answerTo c (LinePlace x y) ≡ fromInverse (inverse c s w)
+  unfolding readingQuestion placeQuestion fromInverse
+  place-reading = came-as c own x y fromInverse _ (place-tells s w es) (reading-tells (LinePlace x y) es) (λ why. refl)
 
   from-answered : (l : Located) {station : ℕ} {offset residual : ℤ} {count : ℕ} → (fromLocated l ≡ AnswerPoint station offset residual count) ↔ (l ≡ LocatedAt station offset residual count)
   unfolding fromLocated
   from-answered (LocatedAt station offset residual count) = ((λ e. cc), (λ e. cc))
-  from-answered (LocatedRefused w) = ((λ e. let z : _≡_ {A = ℕ} 0 1 = cc in absurd (omega arith)), (λ e. let z : _≡_ {A = ℕ} 0 1 = cc in absurd (omega arith)))
+  from-answered (LocatedRefused why) = ((λ e. let z : _≡_ {A = ℕ} 0 1 = cc in absurd (omega arith)), (λ e. let z : _≡_ {A = ℕ} 0 1 = cc in absurd (omega arith)))
 
   -- "A point that meets no refusal is answered, and the station answered is the one judged.", of a plane reading
   pub reading-answered : (station : ℕ) (offset residual : ℤ) (count : ℕ) → (answerTo c (PlanePoint x y) ≡ AnswerPoint station offset residual count)
       ↔ ((checkOf c ≡ Done) × BothWhole x y × Answered (c .elements) (pointOf x y) station offset residual count)
-  unfolding answerTo answerAfter locatedAfter
   reading-answered station offset residual count =
-      let es = c .elements in
       let p = pointOf x y in
-      let s = judged es p in
-      let rules = (c .rules ++ numberRules x y) ++ pointRules es p s in
       let at = crest-answered c own p station offset residual count in (
         (λ e.
-            let done = answered-done (verdict rules) es p s (from-answered (locatedIf (verdict rules) es p s) .0 e) in
-            let h = numbers-hold .0 (all→done (append-all (c .rules ++ numberRules x y) (done→all rules done) .0)) in
-            (h .0, h .1, at .0 (from-answered (located c p) .0 (sym (point-reading (h .1)) ∙ e)) .1)),
+            let on = told-later (point-tells p es) (c .rules ++ numberRules x y) {a = LocatedAt station offset residual count} (λ why k f. let z : _≡_ {A = ℕ} 0 1 = cc in omega arith) .0 (from-answered _ .0 (sym (plane-asked (c .rules) x y es) ∙ e)) in
+            let h = numbers-hold c own x y .0 (on .0) in
+            (h .0, h .1, at .0 (rules-hold (pointQuestion p es) (c .rules) (h .0) ∙ on .1) .1)),
         (λ z. point-reading (z .1) ∙ from-answered (located c p) .1 (at .1 (z .0, z .2))),
       )
 
   -- ---- 1 to 9: a reading is refused with a crest's own number exactly when the crest is
 
-  not-own : {n : ℕ} (why : Reason) → isOwn n ≡ true → isOwn (number why) ≡ false → number why ≢ n
-  not-own why own-number later e = false≢true (sym later ∙ ap isOwn e ∙ own-number)
+  pub point-refused-own : (why : Refusal) → isOwn (why .number) ≡ true → (answerTo c (PlanePoint x y) ≡ AnswerRefused why) ↔ (checkOf c ≡ Refused why)
+  unfolding readingQuestion pointQuestion pointRules number isOwn
+  point-refused-own why k =
+      let not = not-own c own x y in
+      refused-own c own x y fromLocated _ (point-tells (pointOf x y) es) (reading-tells (PlanePoint x y) es) why k
+      (other (not outsideFrame k refl) (other (not tooFar k refl) (other (not beforeStart k refl) (other (not afterEnd k refl) empty))))
 
-  crest-first : (question : List Rule) (w : Refusal) → isOwn (w .number) ≡ true → Lacks (w .number) question →
-      (verdict ((c .rules ++ numberRules x y) ++ question) ≡ Refused w) ↔ (checkOf c ≡ Refused w)
-  unfolding numberRules number isOwn
-  crest-first question w own-number lacks =
-      rw (append-assoc (c .rules) (numberRules x y) question)
-      (first-part (c .rules) (numberRules x y ++ question) w (lacks-++ (other (not-own notWhole own-number refl) empty) lacks))
-
-  pub point-refused-own : (w : Refusal) → isOwn (w .number) ≡ true → (answerTo c (PlanePoint x y) ≡ AnswerRefused w) ↔ (checkOf c ≡ Refused w)
-  unfolding answerTo answerAfter locatedAfter pointRules number isOwn
-  point-refused-own w own-number =
-      let es = c .elements in
-      let p = pointOf x y in
-      let s = judged es p in
-      let rules = (c .rules ++ numberRules x y) ++ pointRules es p s in
-      let lacks : Lacks (w .number) (pointRules es p s) = other (not-own outsideFrame own-number refl) (other (not-own tooFar own-number refl) (other (not-own beforeStart own-number refl) (other (not-own afterEnd own-number refl) empty))) in
-      Iff·trans (point-refused (locatedIf (verdict rules) es p s) w) (Iff·trans (located-if-refused (verdict rules) es p s w) (crest-first (pointRules es p s) w own-number lacks))
-
-  pub place-refused-own : (w : Refusal) → isOwn (w .number) ≡ true → (answerTo c (LinePlace x y) ≡ AnswerRefused w) ↔ (checkOf c ≡ Refused w)
-  unfolding answerTo answerAfter inverseAfter lineRules number isOwn
-  place-refused-own w own-number =
-      let es = c .elements in
-      let s = valueOf (wholeOf x) in
-      let o = valueOf (wholeOf y) in
-      let rules = (c .rules ++ numberRules x y) ++ lineRules es s o in
-      let lacks : Lacks (w .number) (lineRules es s o) = other (not-own askedOutOfRange own-number refl) (other (not-own outsideFrame own-number refl) empty) in
-      Iff·trans (place-refused (inverseIf (verdict rules) es s o) w) (Iff·trans (inverse-if-refused (verdict rules) es s o w) (crest-first (lineRules es s o) w own-number lacks))
+  pub place-refused-own : (why : Refusal) → isOwn (why .number) ≡ true → (answerTo c (LinePlace x y) ≡ AnswerRefused why) ↔ (checkOf c ≡ Refused why)
+  unfolding readingQuestion placeQuestion lineRules number isOwn
+  place-refused-own why k =
+      let not = not-own c own x y in
+      refused-own c own x y fromInverse _ (place-tells s w es) (reading-tells (LinePlace x y) es) why k (other (not askedOutOfRange k refl) (other (not outsideFrame k refl) empty))
 
   -- "when the point's station is asked for": 12, 13 and 14 are no line place's
-  pub place-not-judged : (w : Refusal) → 12 ≤ w .number → w .number ≤ 14 → answerTo c (LinePlace x y) ≢ AnswerRefused w
-  unfolding answerTo answerAfter inverseAfter lineRules numberRules number isOwn
-  place-not-judged w low high e =
-      let es = c .elements in
-      let s = valueOf (wholeOf x) in
-      let o = valueOf (wholeOf y) in
-      let later : isOwn (w .number) ≡ false = rw (lt-leb (w .number) 9 (omega arith)) (and-false (leb 1 (w .number))) in
-      let lacks : Lacks (w .number) ((c .rules ++ numberRules x y) ++ lineRules es s o) =
-      lacks-++ (lacks-++ (lacks-other own later) (other (omega arith) empty)) (other (omega arith) (other (omega arith) empty)) in
-      lacks→not-given lacks (inverse-if-refused (verdict ((c .rules ++ numberRules x y) ++ lineRules es s o)) es s o w .0 (place-refused _ w .0 e))
+  pub place-not-judged : (why : Refusal) → 12 ≤ why .number → why .number ≤ 14 → answerTo c (LinePlace x y) ≢ AnswerRefused why
+  unfolding readingQuestion placeQuestion lineRules number isOwn
+  place-not-judged why low high =
+      let later : isOwn (why .number) ≡ false = rw (lt-leb (why .number) 9 (omega arith)) (and-false (leb 1 (why .number))) in
+      never-refused c own x y fromInverse _ (place-tells s w es) (reading-tells (LinePlace x y) es) why later (λ e. omega arith) (other (λ e. omega arith) (other (λ e. omega arith) empty))
 
   -- ---- 10: "a reading's number not finite or not whole"
 
-  given-10 : (question : List Rule) → Lacks 10 question → (verdict ((c .rules ++ numberRules x y) ++ question) ≡ Refused (refusal notWhole 0)) ↔ ((checkOf c ≡ Done) × ((wholeOf x ≡ none) ⊎ (wholeOf y ≡ none)))
-  unfolding numberRules number isOwn
-  given-10 question l =
-      rw (append-assoc (c .rules) (numberRules x y) question)
-      (Iff·trans (next-after-crest (rule₀ notWhole (isWhole (wholeOf x) && isWhole (wholeOf y))) question l c own refl) (Iff·and Iff·rfl (not-both-whole (wholeOf x) (wholeOf y))))
-
   pub point-refused-10 : (answerTo c (PlanePoint x y) ≡ AnswerRefused (refusal notWhole 0)) ↔ ((checkOf c ≡ Done) × ((wholeOf x ≡ none) ⊎ (wholeOf y ≡ none)))
-  unfolding answerTo answerAfter locatedAfter pointRules number
+  unfolding readingQuestion pointQuestion pointRules number
   point-refused-10 =
-      let es = c .elements in
-      let p = pointOf x y in
-      let s = judged es p in
-      let rules = (c .rules ++ numberRules x y) ++ pointRules es p s in
-      Iff·trans
-      (point-refused (locatedIf (verdict rules) es p s) (refusal notWhole 0))
-      (Iff·trans
-      (located-if-refused (verdict rules) es p s (refusal notWhole 0))
-      (given-10 (pointRules es p s) (other (omega arith) (other (omega arith) (other (omega arith) (other (omega arith) empty))))))
+      refused-10 c own x y fromLocated _ (point-tells (pointOf x y) es) (reading-tells (PlanePoint x y) es) (other (omega arith) (other (omega arith) (other (omega arith) (other (omega arith) empty))))
 
   pub place-refused-10 : (answerTo c (LinePlace x y) ≡ AnswerRefused (refusal notWhole 0)) ↔ ((checkOf c ≡ Done) × ((wholeOf x ≡ none) ⊎ (wholeOf y ≡ none)))
-  unfolding answerTo answerAfter inverseAfter lineRules number
-  place-refused-10 =
-      let es = c .elements in
-      let s = valueOf (wholeOf x) in
-      let o = valueOf (wholeOf y) in
-      let rules = (c .rules ++ numberRules x y) ++ lineRules es s o in
-      Iff·trans
-      (place-refused (inverseIf (verdict rules) es s o) (refusal notWhole 0))
-      (Iff·trans
-      (inverse-if-refused (verdict rules) es s o (refusal notWhole 0))
-      (given-10 (lineRules es s o) (other (omega arith) (other (omega arith) empty))))
+  unfolding readingQuestion placeQuestion lineRules number
+  place-refused-10 = refused-10 c own x y fromInverse _ (place-tells s w es) (reading-tells (LinePlace x y) es) (other (omega arith) (other (omega arith) empty))
 
   -- ---- 11 to 15 of a reading on a crest
 
   -- of a plane point: 11, 12, 13 and 14, where the crest is accepted and both numbers are whole
   point-given : (why : Reason) {C : Type 0} → isOwn (number why) ≡ false → number why ≢ 10 → ((located c (pointOf x y) ≡ LocatedRefused (refusal why 0)) ↔ ((checkOf c ≡ Done) × C)) →
       (answerTo c (PlanePoint x y) ≡ AnswerRefused (refusal why 0)) ↔ ((checkOf c ≡ Done) × BothWhole x y × C)
-  unfolding refusal
-  point-given why later other-number given =
-      Iff·trans (point-refused-as (refusal why 0) later other-number) (
-        (λ z. let g = given .0 (z .1) in (g .0, z .0, g .1)),
-        (λ z. (z .1, given .1 (z .0, z .2))),
-      )
+  unfolding readingQuestion
+  point-given = given-as c own x y fromLocated _ (point-tells (pointOf x y) es) (reading-tells (PlanePoint x y) es)
 
   pub reading-refused-11 : (answerTo c (PlanePoint x y) ≡ AnswerRefused (refusal outsideFrame 0))
       ↔ ((checkOf c ≡ Done) × BothWhole x y × (inFrame (valueOf (wholeOf x)) (valueOf (wholeOf y)) ≡ false))
@@ -285,15 +246,10 @@ module _ (c : Crest) (own : Gives isOwn (c .rules)) (x y : Float) where
   reading-refused-14 = point-given afterEnd refl (λ e. omega arith) (crest-after-end c own (pointOf x y))
 
   -- of a line place: 15, and 11 of the resulting point
-  place-given : (why : Reason) {C : Type 0} → isOwn (number why) ≡ false → number why ≢ 10 →
-      ((inverse c (valueOf (wholeOf x)) (valueOf (wholeOf y)) ≡ InverseRefused (refusal why 0)) ↔ ((checkOf c ≡ Done) × C)) →
+  place-given : (why : Reason) {C : Type 0} → isOwn (number why) ≡ false → number why ≢ 10 → ((inverse c s w ≡ InverseRefused (refusal why 0)) ↔ ((checkOf c ≡ Done) × C)) →
       (answerTo c (LinePlace x y) ≡ AnswerRefused (refusal why 0)) ↔ ((checkOf c ≡ Done) × BothWhole x y × C)
-  unfolding refusal
-  place-given why later other-number given =
-      Iff·trans (place-refused-as (refusal why 0) later other-number) (
-        (λ z. let g = given .0 (z .1) in (g .0, z .0, g .1)),
-        (λ z. (z .1, given .1 (z .0, z .2))),
-      )
+  unfolding readingQuestion
+  place-given = given-as c own x y fromInverse _ (place-tells s w es) (reading-tells (LinePlace x y) es)
 
   pub reading-refused-15 : (answerTo c (LinePlace x y) ≡ AnswerRefused (refusal askedOutOfRange 0))
       ↔ ((checkOf c ≡ Done) × BothWhole x y × ((isStation (c .elements) (valueOf (wholeOf x)) ≡ false) ⊎ (20000000 < natAbs (valueOf (wholeOf y)))))

@@ -24,12 +24,13 @@ use Rattle.model.specs.declared.ReadingAnswer.{ReadingAnswer}
 use Rattle.model.specs.declared.ReadingAnswer.the-variants.{Refused as AnswerRefused}
 use Rattle.model.specs.declared.Run.{Run}
 use Rattle.model.specs.Refusals.{Reason, byteCount, checksum, blockField, damagedRecord, laterKind, fieldOutOfRange, notUnit, gap, kink, outsideFrame, askedOutOfRange, runFull, recordCount, wrongRoom, Rule, number, refusal, rule, rule₀, Gives, verdict, forEach}
-use Rattle.model.specs.Records.{blockCount, blockOf, recordBytes, countOf, recordOf}
+use Rattle.model.specs.Records.{blockSize, blockCount, blockOf, recordBytes, countOf, recordOf}
 use Rattle.model.specs.Acceptance.{inFrame, isUnit, recordRules, joinRules, elementAt, recordsRules, lengthFits, sumsAgree, fieldsFit, sumRules, fieldRules, blocksRules, crestRules, checked}
 use Rattle.model.specs.Crest.{Crest, checkOf, fileCrest, isOwn}
 use Rattle.model.specs.Stations.{isStation}
 use Rattle.model.specs.Writer.{countFits, blocksNeeded, writerRules, writerOutcome}
-use Rattle.model.specs.Answers.{code, paperOfOutcome, readerOutcome, stationRules, placedAfter, placed, located, inverseAt, lineRules, inverseAfter, inverse, moveRules, stakeOut}
+use Rattle.model.specs.Answers.{code, paperOfOutcome, readerOutcome, stationRules, stationQuestion, placed, located, inverseAt, lineRules, placeQuestion, inverse, moveRules, moveQuestion, stakeOut}
+use Rattle.model.proofs.Answers.{told-exactly, station-tells, place-tells, move-tells}
 use Rattle.model.specs.Readings.{refusesReading}
 use Rattle.model.specs.Run.{isFull, runAt, noted}
 use Rattle.model.specs.Calls.{readingCall, acknowledgeCall, stakeOutCall}
@@ -42,10 +43,10 @@ use Rattle.walk_laws.proofs.Reasons.{Lacks, first-holds, rest-hold, empty, othe
 use Rattle.walk_laws.proofs.Outcomes.{crest-outside-frame}
 use Rattle.readings.proofs.Calls.{reading-18, reading-16, answer-not-the-runs, acknowledge-18, acknowledge-0}
 use Rattle.readings.proofs.Noting.{noted-full, noted-counted}
-use Rattle.demands.proofs.Orders.{and-fails, placed-if-refused, inverse-if-refused, move-if-refused, two-rules, first-given, given-after-crest, next-after-crest}
+use Rattle.demands.proofs.Orders.{and-fails, two-rules, first-given, given-after-crest, next-after-crest}
 use Rattle.demands.proofs.Places.{lacks-rule, lacks-forEach, nowhere, here, given-at-place}
 use Rattle.demands.proofs.RecordRefusals.{RecordGives4, RecordGives5, RecordGives6, RecordGives7, JoinGives8, JoinGives9, record-gives-4, record-gives-5, record-gives-6, record-gives-7, join-gives-8, join-gives-9, RecordReached, JoinReached, records-lack, given-at-record, given-at-join}
-use Rattle.demands.proofs.Demand1.{Numbered, refused-numbered, came-as-read, ReadingEnds, no-run, run-full, counts, any-reading-call, move-code}
+use Rattle.demands.proofs.Demand1.{Numbered, refused-numbered, came-as-read, ReadingEnds, no-run, run-full, counts, any-reading-call, stakeOutRules, stake-out-code}
 
 -- ---- 1 to 3 of a file's own bytes: "1; 2 for all blocks; 3 for all"
 
@@ -171,19 +172,19 @@ module _ (c : Crest) (own : Gives isOwn (c .rules)) where
 
   -- "station .. out of range": a position asked for
   pub position-refused-15 : (s : ℤ) → (placed c s ≡ PlacedRefused (refusal askedOutOfRange 0)) ↔ ((checkOf c ≡ Done) × (isStation (c .elements) s ≡ false))
-  unfolding placed placedAfter stationRules number isOwn
+  unfolding stationQuestion stationRules number isOwn
   position-refused-15 s =
       let es = c .elements in
-      Iff·trans (placed-if-refused _ es (natAbs s) (refusal askedOutOfRange 0)) (next-after-crest (rule₀ askedOutOfRange (isStation es s)) [] empty c own refl)
+      Iff·trans (told-exactly (station-tells s es) (c .rules) (refusal askedOutOfRange 0)) (next-after-crest (rule₀ askedOutOfRange (isStation es s)) [] empty c own refl)
 
   -- "station, offset .. out of range": a line place
   pub place-refused-15 : (s w : ℤ) → (inverse c s w ≡ InverseRefused (refusal askedOutOfRange 0)) ↔ ((checkOf c ≡ Done) × ((isStation (c .elements) s ≡ false) ⊎ (20000000 < natAbs w)))
-  unfolding inverse inverseAfter lineRules number isOwn
+  unfolding placeQuestion lineRules number isOwn
   place-refused-15 s w =
       let es = c .elements in
       let n = natAbs w in
       Iff·trans
-      (inverse-if-refused _ es s w (refusal askedOutOfRange 0))
+      (told-exactly (place-tells s w es) (c .rules) (refusal askedOutOfRange 0))
       (Iff·trans
       (next-after-crest (rule₀ askedOutOfRange (isStation es s && leb n 20000000)) _ (other (omega arith) empty) c own refl)
       (Iff·and Iff·rfl (Iff·trans (and-fails (isStation es s) (leb n 20000000)) (⊎-map (λ e. e) (leb-false n 20000000), ⊎-map (λ e. e) (lt-leb n 20000000)))))
@@ -192,7 +193,7 @@ module _ (c : Crest) (own : Gives isOwn (c .rules)) where
   pub place-refused-11 : (s w : ℤ) → (inverse c s w ≡ InverseRefused (refusal outsideFrame 0)) ↔
       ((checkOf c ≡ Done) × ((isStation (c .elements) s ≡ true) × (natAbs w ≤ 20000000))
       × (inFrame (inverseAt (c .elements) (natAbs s) w .x) (inverseAt (c .elements) (natAbs s) w .y) ≡ false))
-  unfolding inverse inverseAfter lineRules number isOwn
+  unfolding placeQuestion lineRules number isOwn
   place-refused-11 s w =
       let es = c .elements in
       let n = natAbs w in
@@ -200,7 +201,7 @@ module _ (c : Crest) (own : Gives isOwn (c .rules)) where
       let q = inverseAt es (natAbs s) w in
       let both = and-eq-true-iff (isStation es s) (leb n 20000000) in
       Iff·trans
-      (inverse-if-refused _ es s w (refusal outsideFrame 0))
+      (told-exactly (place-tells s w es) (c .rules) (refusal outsideFrame 0))
       (Iff·trans
       (given-after-crest (rule₀ outsideFrame (inFrame (q .x) (q .y))) [] empty c own refl (asked ∷ []) (other (omega arith) empty)) (
         (λ x. let b = both .0 (first-holds (x .1)) in (x .0, (b .0, leb-true n 20000000 (b .1)), x .2)),
@@ -218,24 +219,24 @@ record-refused-15 file r =
 
 module _ (own target : Point) (c s : ℤ) where
   pub stake-out-refused-11 : (stakeOut own target c s ≡ MoveRefused (refusal outsideFrame 0)) ↔ ((inFrame (own .x) (own .y) ≡ false) ⊎ (inFrame (target .x) (target .y) ≡ false))
-  unfolding stakeOut moveRules number
+  unfolding moveQuestion moveRules number
   stake-out-refused-11 =
       let a = inFrame (own .x) (own .y) in
       let b = inFrame (target .x) (target .y) in
       let unit = rule₀ notUnit (isUnit c s) in
       let one : (verdict (moveRules own target c s) ≡ Refused (refusal outsideFrame 0)) ↔ ((a ≡ false) ⊎ (b ≡ false)) =
       rw (two-rules outsideFrame 0 a b (unit ∷ [])) (Iff·trans (first-given (rule₀ outsideFrame (a && b)) (unit ∷ []) (other (omega arith) empty)) (and-fails a b)) in
-      Iff·trans (move-if-refused _ own target c s (refusal outsideFrame 0)) one
+      Iff·trans (told-exactly (move-tells own target c s) [] (refusal outsideFrame 0)) one
 
   -- "direction not a unit (.. heading)"
   pub stake-out-refused-7 : (stakeOut own target c s ≡ MoveRefused (refusal notUnit 0)) ↔
       ((inFrame (own .x) (own .y) ≡ true) × (inFrame (target .x) (target .y) ≡ true) × (isUnit c s ≡ false))
-  unfolding stakeOut moveRules number
+  unfolding moveQuestion moveRules number
   stake-out-refused-7 =
       let own-in = rule₀ outsideFrame (inFrame (own .x) (own .y)) in
       let target-in = rule₀ outsideFrame (inFrame (target .x) (target .y)) in
       Iff·trans
-      (move-if-refused _ own target c s (refusal notUnit 0))
+      (told-exactly (move-tells own target c s) [] (refusal notUnit 0))
       (Iff·trans
       (given-exactly (rule₀ notUnit (isUnit c s)) [] empty (own-in ∷ target-in ∷ []) (other (omega arith) (other (omega arith) empty))) (
         (λ x. (first-holds (x .0), first-holds (rest-hold (x .0)), x .1)),
@@ -255,7 +256,7 @@ module _ (records : List ℕ) (room : ℕ) where
   pub write-refused-18 : (writerOutcome records room ≡ Refused (refusal wrongRoom 0)) ↔ ((verdict (rulesButRoom records) ≡ Done) × (room < 512 * blocksNeeded records))
   unfolding writerOutcome writerRules number isOwn
   write-refused-18 =
-      let needed = 512 * blocksNeeded records in
+      let needed = blockSize * blocksNeeded records in
       Iff·trans
       (given-exactly (rule₀ wrongRoom (leb needed room)) [] empty (rulesButRoom records) (other (omega arith) (lacks-other (records-own records) refl)))
       (Iff·and (all→done, done→all (rulesButRoom records)) (leb-false needed room, lt-leb needed room))
@@ -270,7 +271,7 @@ module _ (records : List ℕ) (room r : ℕ) where
   unfolding number
   count-lacks h = lacks-rule recordCount (omega arith) empty
 
-  room-lacks : {n : ℕ} → n ≤ 9 → Lacks n (rule₀ wrongRoom (leb (512 * blocksNeeded records) room) ∷ [])
+  room-lacks : {n : ℕ} → n ≤ 9 → Lacks n (rule₀ wrongRoom (leb (blockSize * blocksNeeded records) room) ∷ [])
   unfolding number
   room-lacks h = lacks-rule wrongRoom (omega arith) empty
 
@@ -357,10 +358,8 @@ returns-number why rs = (go (verdict rs) (refused-numbered rs), (λ e. ap (λ o.
 
 -- "a C move's not 8"
 pub stake-out-call-refused-18 : (own target : Point) (c s : ℤ) (room : List ℕ) → (stakeOutCall own target c s room .0 ≡ 18) ↔ (length room ≢ 8)
-unfolding stakeOutCall moveRules number
+unfolding moveRules number
 stake-out-call-refused-18 own target c s room =
-    let eight = rule₀ wrongRoom (eqb (length room) 8) in
-    let rules = eight ∷ moveRules own target c s in
-    rw (move-code (verdict rules) own target c s)
-    (Iff·trans (returns-number wrongRoom rules)
-    (Iff·trans (first-given eight (moveRules own target c s) (other (omega arith) (other (omega arith) (other (omega arith) empty)))) (eqb-false (length room) 8, ne-eqb (length room) 8)))
+    rw (stake-out-code own target c s room)
+    (Iff·trans (returns-number wrongRoom (stakeOutRules own target c s room))
+    (Iff·trans (first-given (rule₀ wrongRoom (eqb (length room) 8)) (moveRules own target c s) (other (omega arith) (other (omega arith) (other (omega arith) empty)))) (eqb-false (length room) 8, ne-eqb (length room) 8)))

@@ -23,8 +23,8 @@ ghost use lib.ListN.{length};
 ghost use Rattle.model.specs.Acceptance.{checked};
 ghost use Rattle.model.specs.Writer.{writerOutcome, written};
 ghost use Rattle.model.specs.Crest.{fileCrest};
-ghost use Rattle.model.specs.Answers.{paperIf, paperOfOutcome, readerOutcome, placed, paperOfPlaced, placedPaper, located, paperOfLocated, locatedPaper, inverse as inverseIn, paperOfInverse, inversePaper, stakeOut, paperOfMove, movePaper};
-ghost use Rattle.model.specs.Readings.{answerTo, valueCount, paperOfReading, readingPaper, displayOf};
+ghost use Rattle.model.specs.Answers.{paperIf, paperOfOutcome, paperAfter, askedPaper, readerOutcome, stationQuestion, placed, paperOfPlaced, pointQuestion, located, paperOfLocated, placeQuestion, inverse as inverseIn, paperOfInverse, moveQuestion, stakeOut, paperOfMove};
+ghost use Rattle.model.specs.Readings.{readingQuestion, answerTo, valueCount, paperOfReading, displayOf};
 ghost use Rattle.model.specs.Run.{notedPaper};
 ghost use Rattle.entries.specs.Entries.{notedReading};
 
@@ -63,7 +63,7 @@ pub fn write(records: &[u8], room: &mut [u8]) -> Outcome
 // The position and the direction at a station.
 pub fn position(file: &[u8], s: i64) -> Placed
     ensures { λ r. ⌜ r ≡ placed (fileCrest (now (file .entry))) s ⌝ }
-    ensures paper { λ r. ⌜ paperOfPlaced r ≡ placedPaper (fileCrest (now (file .entry))) s ⌝ }
+    ensures paper { λ r. ⌜ paperOfPlaced r ≡ askedPaper (stationQuestion s) (fileCrest (now (file .entry))) ⌝ }
 {
     ask::position(file, no_amendment(file), Form::File, s)
 }
@@ -71,7 +71,7 @@ pub fn position(file: &[u8], s: i64) -> Placed
 // Station and offset of a point.
 pub fn locate(file: &[u8], q: Point) -> Located
     ensures { λ r. ⌜ r ≡ located (fileCrest (now (file .entry))) q ⌝ }
-    ensures paper { λ r. ⌜ paperOfLocated r ≡ locatedPaper (fileCrest (now (file .entry))) q ⌝ }
+    ensures paper { λ r. ⌜ paperOfLocated r ≡ askedPaper (pointQuestion q) (fileCrest (now (file .entry))) ⌝ }
 {
     ask::locate(file, no_amendment(file), Form::File, q)
 }
@@ -79,7 +79,7 @@ pub fn locate(file: &[u8], q: Point) -> Located
 // The point at a station and an offset.
 pub fn inverse(file: &[u8], s: i64, w: i64) -> Inverse
     ensures { λ r. ⌜ r ≡ inverseIn (fileCrest (now (file .entry))) s w ⌝ }
-    ensures paper { λ r. ⌜ paperOfInverse r ≡ inversePaper (fileCrest (now (file .entry))) s w ⌝ }
+    ensures paper { λ r. ⌜ paperOfInverse r ≡ askedPaper (placeQuestion s w) (fileCrest (now (file .entry))) ⌝ }
 {
     ask::inverse(file, no_amendment(file), Form::File, s, w)
 }
@@ -87,7 +87,7 @@ pub fn inverse(file: &[u8], s: i64, w: i64) -> Inverse
 // How far to move a stake.
 pub fn stake_out(own: Point, target: Point, c: i64, s: i64) -> Move
     ensures { λ r. ⌜ r ≡ stakeOut own target c s ⌝ }
-    ensures paper { λ r. ⌜ paperOfMove r ≡ movePaper own target c s ⌝ }
+    ensures paper { λ r. ⌜ paperOfMove r ≡ paperAfter [] (moveQuestion own target c s) ⌝ }
 {
     stakes::stake_out(own, target, c, s)
 }
@@ -95,7 +95,7 @@ pub fn stake_out(own: Point, target: Point, c: i64, s: i64) -> Move
 // What a reading comes to on a crest, without a run.
 pub fn answer(file: &[u8], reading: Reading) -> ReadingAnswer
     ensures { λ r. ⌜ r ≡ answerTo (fileCrest (now (file .entry))) reading ⌝ }
-    ensures paper { λ r. ⌜ paperOfReading (valueCount reading) r ≡ readingPaper (fileCrest (now (file .entry))) reading ⌝ }
+    ensures paper { λ r. ⌜ paperOfReading (valueCount reading) r ≡ askedPaper (readingQuestion reading) (fileCrest (now (file .entry))) ⌝ }
 {
     ask::answer(file, no_amendment(file), Form::File, reading)
 }
@@ -111,7 +111,7 @@ pub fn display(file: &[u8], reading: Reading) -> Display
 // A reading on a run: counted, or refused with 16 where the run is full.
 pub fn note(file: &[u8], reading: Reading, run: Run) -> NotedReading
     ensures { λ r. ⌜ r ≡ notedReading (answerTo (fileCrest (now (file .entry))) reading) run ⌝ }
-    ensures paper { λ r. ⌜ paperOfReading (valueCount reading) (r .answer) ≡ notedPaper (readingPaper (fileCrest (now (file .entry))) reading) run ⌝ }
+    ensures paper { λ r. ⌜ paperOfReading (valueCount reading) (r .answer) ≡ notedPaper (askedPaper (readingQuestion reading) (fileCrest (now (file .entry)))) run ⌝ }
 {
     let noted = answers::note_file(file, reading, run);
     let answer = noted.answer;

@@ -4,12 +4,13 @@ use model::ReadingAnswer;
 use model::Run;
 ghost use mathlib.Core.Path.{_≡_};
 ghost use Rattle.model.specs.Crest.{fileCrest};
-ghost use Rattle.model.specs.Readings.{answerTo, valueCount, paperOfReading, readingPaper};
+ghost use Rattle.model.specs.Answers.{askedPaper};
+ghost use Rattle.model.specs.Readings.{readingQuestion, answerTo, valueCount, paperOfReading};
 ghost use Rattle.model.specs.Run.{noted, notedPaper, acknowledged};
 
 // A reading on a run: counted, or refused with 16 where the run is full.
 pub fn note(crest: &[u8], reading: Reading, run: &mut Run) -> ReadingAnswer
-    ensures { λ r. ⌜ (record { answer = r; run = now (run .exit) } ≡ noted (answerTo (fileCrest (now (crest .entry))) reading) (now (run .entry))) × (paperOfReading (valueCount reading) r ≡ notedPaper (readingPaper (fileCrest (now (crest .entry))) reading) (now (run .entry))) ⌝ }
+    ensures { λ r. ⌜ (record { answer = r; run = now (run .exit) } ≡ noted (answerTo (fileCrest (now (crest .entry))) reading) (now (run .entry))) × (paperOfReading (valueCount reading) r ≡ notedPaper (askedPaper (readingQuestion reading) (fileCrest (now (crest .entry)))) (now (run .entry))) ⌝ }
 {
     let noted = answers::note_file(crest, reading, *run);
     *run = noted.run;

@@ -9,6 +9,7 @@ use records::refused;
 use sources::Form;
 use sources::count_in;
 use sources::element_in;
+ghost use mathlib.Core.List.{[]};
 ghost use mathlib.Core.Path.{_≡_};
 ghost use lib.Dec.{leb};
 ghost use lib.IntN.{natAbs, _-ℤ_};
@@ -16,6 +17,7 @@ ghost use Rattle.model.specs.Refusals.{verdict};
 ghost use Rattle.model.specs.Acceptance.{closeBy, eachJoin};
 ghost use Rattle.sources.specs.Sources.{recordsIn, SourceAccepted};
 ghost use Rattle.joins.specs.Joins.{Small, SmallPoint, SmallPlacement, positionIn, directionIn, placedRules};
+ghost use Rattle.model.specs.Answers.{paperIf, paperOfOutcome};
 
 // Whether two numbers differ by at most n.
 fn close(n: u64, a: i64, b: i64) -> bool
@@ -73,6 +75,7 @@ fn check_join(last: Placement, first: Placement, r: u32) -> Outcome
 pub fn check_joins(crest: &[u8], amendment: &[u8], form: Form) -> Outcome
     requires { ⌜ SourceAccepted form (now crest) (now amendment) ⌝ }
     ensures { λ o. ⌜ o ≡ verdict (eachJoin (recordsIn form (now (crest .entry)) (now (amendment .entry)))) ⌝ }
+    ensures paper { λ o. ⌜ paperOfOutcome o ≡ paperIf (verdict (eachJoin (recordsIn form (now (crest .entry)) (now (amendment .entry))))) [] ⌝ }
 {
     let count = count_in(crest, amendment, form);
     let head = element_in(crest, amendment, form, 0);

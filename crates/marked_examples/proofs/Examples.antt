@@ -12,9 +12,9 @@ use Rattle.model.specs.Refusals.{verdict}
 use Rattle.model.specs.Acceptance.{crestRules, crestElements}
 use Rattle.model.specs.Crest.{checkOf, fileCrest}
 use Rattle.model.specs.Stations.{D}
-use Rattle.model.specs.Answers.{paperOfLocated, located, locatedOn}
+use Rattle.model.specs.Answers.{answerAfter, pointQuestion, located, locatedOn, paperOfLocated}
 use Rattle.marked_examples.specs.Examples.{K, point, firstThree, valuesBy, answered, examples, asked, due}
-use Rattle.model.proofs.Answers.{located-accepted}
+use Rattle.model.proofs.Answers.{rules-hold}
 
 unfoldable pub elementsK : List Element
 elementsK = record { kind = Line; length = 10000; x = pos 0; y = pos 0; c = pos ONE; s = pos 0; radius = pos 0 } ∷ []
@@ -28,7 +28,7 @@ unfolding crestElements K elementsK
 readK = refl
 
 onK : (p : Point) → located (fileCrest K) p ≡ locatedOn elementsK p
-onK p = located-accepted (fileCrest K) p acceptedK ∙ ap (λ es. locatedOn es p) readK
+onK p = rules-hold (pointQuestion p (crestElements K)) (crestRules K) acceptedK ∙ ap (λ es. locatedOn es p) readK
 
 -- of example 2: "(tie with 6)"
 pub tie-with-6 : D elementsK (point (pos 550) (pos 300)) 5 ≡ D elementsK (point (pos 550) (pos 300)) 6
@@ -41,7 +41,7 @@ point-on-K f p = ap (λ l. valuesBy f (paperOfLocated l)) (onK p)
 
 -- The fourteen examples, in one statement.
 pub examples-hold : map asked examples ≡ map due examples
-unfolding answered examples locatedOn elementsK paperOfLocated
+unfolding answered examples answerAfter pointQuestion elementsK paperOfLocated
 examples-hold =
     ap₂ _∷_ (point-on-K firstThree (point (pos 512) (pos 300)))
     (ap₂ _∷_ (point-on-K firstThree (point (pos 550) (pos 300)))

@@ -15,12 +15,13 @@ use Rattle.model.specs.declared.Outcome.the-variants.{Done}
 use Rattle.model.specs.Records.{u32At}
 use Rattle.model.specs.Refusals.{refusal, verdict, orRefused}
 use Rattle.model.specs.Crest.{Crest, fileCrest}
-use Rattle.model.specs.Answers.{locatedOn}
-use Rattle.model.specs.Readings.{numberRules, answerOn, answerTo, fromLocated, valueOf, wholeOf}
+use Rattle.model.specs.Acceptance.{crestRules, crestElements}
+use Rattle.model.specs.Answers.{answerAfter, pointQuestion, locatedOn}
+use Rattle.model.specs.Readings.{numberRules, readingQuestion, answerOn, answerTo, fromLocated, valueOf, wholeOf}
 use Rattle.model.specs.Run.{Shown, fresh, isFull, fullRules, shownOf, counted, noted, notedIf}
 use Rattle.model.specs.Program.{ascii, decimal, line, firstWords, heading, readingLine, lastLine, readingAt, readingsFrom, readingsOf, printFrom, printed}
 use Rattle.marked_examples.specs.Examples.{K, point}
-use Rattle.model.proofs.Answers.{located-after, answer-accepted}
+use Rattle.model.proofs.Answers.{rules-hold, plane-asked}
 use Rattle.marked_examples.proofs.Examples.{elementsK, acceptedK, readK}
 
 -- x and y of examples 1 and 4 as f64: (512, 300) and (−101, 0)
@@ -36,11 +37,11 @@ on-K x y = shownOf (fromLocated (locatedOn elementsK (point (valueOf (wholeOf x)
 -- a reading on K whose numbers are whole
 module _ (x y : Float) (w : verdict (numberRules x y) ≡ Done) where
   answer-on-K : answerTo (fileCrest K) (PlanePoint x y) ≡ fromLocated (locatedOn elementsK (point (valueOf (wholeOf x)) (valueOf (wholeOf y))))
-  unfolding answerOn
   answer-on-K =
-      answer-accepted (fileCrest K) (PlanePoint x y) acceptedK
+      rules-hold (readingQuestion (PlanePoint x y) (crestElements K)) (crestRules K) acceptedK
       ∙ ap (λ es. answerOn es (PlanePoint x y)) readK
-      ∙ ap fromLocated (located-after (numberRules x y) elementsK (point (valueOf (wholeOf x)) (valueOf (wholeOf y))) w)
+      ∙ plane-asked [] x y elementsK
+      ∙ ap fromLocated (rules-hold (pointQuestion (point (valueOf (wholeOf x)) (valueOf (wholeOf y))) elementsK) (numberRules x y) w)
 
   -- its line, where the run is not full, and what follows
   taken : (i : ℕ) (run : Run) (rs : List Reading) → isFull run ≡ false →
@@ -84,11 +85,11 @@ abbrev o₄ : Shown
 o₄ = record { number = 13; one = pos 0; two = pos 0; three = pos 0 }
 
 came-1 : on-K x₁ y₁ ≡ o₁
-unfolding shownOf fromLocated locatedOn elementsK valueOf wholeOf ofBits
+unfolding shownOf fromLocated answerAfter pointQuestion elementsK valueOf wholeOf ofBits
 came-1 = refl
 
 came-4 : on-K x₄ y₄ ≡ o₄
-unfolding shownOf fromLocated locatedOn elementsK valueOf wholeOf ofBits
+unfolding shownOf fromLocated answerAfter pointQuestion elementsK valueOf wholeOf ofBits
 came-4 = refl
 
 abbrev run₁ : Run

@@ -24,7 +24,7 @@ use Rattle.model.specs.Writer.{written}
 use Rattle.model.specs.Stations.{total, D}
 use Rattle.model.specs.Judged.{judged}
 use Rattle.model.specs.Walk.{firstVisits, visitCount}
-use Rattle.model.specs.Answers.{located}
+use Rattle.model.specs.Answers.{answerAfter, pointQuestion, located}
 use Rattle.model.specs.Run.{Shown, shownOf, answers, counted, acknowledged}
 use Rattle.model.specs.Calls.{acknowledgeCall}
 use Rattle.marked_examples.specs.Examples.{K, crest, oneRecord, point}
@@ -49,7 +49,7 @@ answered : Located
 answered = At 5 (pos 300) (pos 12) 12
 
 short-answered : located (fileCrest short) (point (pos 512) (pos 300)) ≡ answered
-unfolding located crestRules crestElements short answered
+unfolding answerAfter pointQuestion crestRules crestElements short answered
 short-answered = refl
 
 pub refuses-all-points : (f : List ℕ → Point → Located) → ((file : List ℕ) (p : Point) → (why : Refusal) × (f file p ≡ LocatedRefused why)) → ((file : List ℕ) (p : Point) → f file p ≡ located (fileCrest file) p) → ⊥

@@ -10,7 +10,7 @@ use Rattle.model.specs.Acceptance.{crestRules, crestElements}
 use Rattle.model.specs.Crest.{fileCrest}
 use Rattle.model.specs.Writer.{fileOf}
 use Rattle.model.specs.Walk.{visits}
-use Rattle.model.specs.Answers.{PaperAnswer, answer, refusedWith, paperOfPlaced, paperOfLocated, paperOfInverse, paperOfMove, placed, located, inverse, stakeOut}
+use Rattle.model.specs.Answers.{PaperAnswer, answer, refusedWith, answerAfter, stationQuestion, placed, paperOfPlaced, pointQuestion, located, paperOfLocated, placeQuestion, inverse, paperOfInverse, moveQuestion, stakeOut, paperOfMove}
 
 abbrev pub point : ℤ → ℤ → Point
 point x y = record { x = x; y = y }
@@ -67,7 +67,7 @@ abbrev pub valuesBy : (List ℤ → List ℤ) → PaperAnswer → PaperAnswer
 valuesBy f p = record { number = p .number; place = p .place; values = f (p .values) }
 
 unfoldable pub answered : Question → PaperAnswer
-unfolding paperOfLocated located paperOfInverse inverse paperOfPlaced placed paperOfMove stakeOut visits crestRules crestElements
+unfolding answerAfter paperOfLocated pointQuestion paperOfInverse placeQuestion paperOfPlaced stationQuestion paperOfMove moveQuestion visits crestRules crestElements
 answered (locate file p) = valuesBy firstThree (paperOfLocated (located (fileCrest file) p))
 answered (accept file p) = valuesBy (λ v. []) (paperOfLocated (located (fileCrest file) p))
 answered (walk file p) = valuesBy (λ v. map pos (visits (crestElements file) p) ++ afterThree v) (paperOfLocated (located (fileCrest file) p))

@@ -1,183 +1,210 @@
--- Where the rules before those of the question hold, the answer is that of the elements; where they refuse, it is their refusal. So on an accepted crest
--- the crest's own rules decide nothing, and a refused crest refuses every question. And the paper's number, place and values of an answer are those of its order.
+-- Where the rules before those of a question hold, they decide nothing; where they refuse, theirs is the answer. So on an accepted crest its own rules decide nothing, and a
+-- refused crest refuses every question. And the paper's number, place and values of an answer are those of its order.
 use Prim.Native.Nat.{ℕ}
 use mathlib.Core.List.{List, [], _∷_, _++_, append-assoc}
+use mathlib.Core.Logic.{_↔_}
 use mathlib.Core.Path.{_≡_, refl, sym, _∙_, ap}
+use native.Mathlib.Omega.{arith}
 use lib.ListN.{length, length-replicate}
-use lib.IntN.{ℤ, pos, natAbs}
+use lib.IntN.{ℤ, pos}
+use lib.Ieee.{Float}
 use Rattle.model.specs.declared.Element.{Element}
 use Rattle.model.specs.declared.Point.{Point}
 use Rattle.model.specs.declared.Refusal.{Refusal}
 use Rattle.model.specs.declared.Outcome.{Outcome}
 use Rattle.model.specs.declared.Outcome.the-variants.{Done, Refused}
 use Rattle.model.specs.declared.Placed.the-variants.{Refused as PlacedRefused}
-use Rattle.model.specs.declared.Located.{Located}
-use Rattle.model.specs.declared.Located.the-variants.{At as LocatedAt, Refused as LocatedRefused}
-use Rattle.model.specs.declared.Inverse.{Inverse}
-use Rattle.model.specs.declared.Inverse.the-variants.{At as InverseAt, Refused as InverseRefused}
+use Rattle.model.specs.declared.Located.the-variants.{Refused as LocatedRefused}
+use Rattle.model.specs.declared.Inverse.the-variants.{Refused as InverseRefused}
+use Rattle.model.specs.declared.Move.the-variants.{Refused as MoveRefused}
 use Rattle.model.specs.declared.Reading.{Reading}
 use Rattle.model.specs.declared.Reading.the-variants.{PlanePoint, LinePlace}
 use Rattle.model.specs.declared.ReadingAnswer.{ReadingAnswer}
 use Rattle.model.specs.declared.ReadingAnswer.the-variants.{Refused as AnswerRefused}
 use Rattle.model.specs.declared.Run.{Run}
+use Rattle.model.specs.declared.Noted.{Noted}
 use Rattle.model.specs.Refusals.{Rule, verdict}
-use Rattle.model.specs.Crest.{Crest, checkOf}
-use Rattle.model.specs.Stations.{positionAt, tangentAt}
-use Rattle.model.specs.Judged.{judged, offsetAt, residualAt}
-use Rattle.model.specs.Walk.{visitCount}
-use Rattle.model.specs.Answers.{PaperAnswer, refusedWith, paperIf, stationRules, placed, placedAfter, placedIf, placedOn, paperOfPlaced, placedPaper, located, locatedAfter, locatedIf, locatedOn, pointRules, paperOfLocated, locatedPaperAfter, locatedPaper, inverseAt, inverse, inverseAfter, inverseIf, inverseOn, lineRules, paperOfInverse, inversePaperAfter, inversePaper, forwardOf, leftOf, moveIf, moveOf, moveRules, stakeOut, paperOfMove, movePaper, paperOfOutcome}
-use Rattle.model.specs.Readings.{numberRules, wholeOf, valueOf, fromLocated, fromInverse, answerAfter, answerOn, answerTo, valueCount, paperOfReading, readingPaper}
+use Rattle.model.specs.Crest.{Crest}
+use Rattle.model.specs.Answers.{PaperAnswer, answer, refusedWith, paperIf, paperOfOutcome, Question, answerIf, answerAfter, answerOf, paperAfter, askedPaper, stationRules, stationQuestion, paperOfPlaced, pointRules, pointQuestion, paperOfLocated, lineRules, placeQuestion, paperOfInverse, moveRules, moveQuestion, paperOfMove}
+use Rattle.model.specs.Readings.{wholeOf, valueOf, numberRules, fromLocated, fromInverse, numberedQuestion, readingQuestion, answerTo, valueCount, paperOfReading}
 use Rattle.model.specs.Run.{fullRules, notedIf, noted, notedPaperIf, notedPaper}
 use Rattle.model.proofs.Verdict.{verdict-after, refused-before}
 
-module _ (before : List Rule) (es : List Element) where
-  pub placed-after : (s : ℤ) → verdict before ≡ Done → placedAfter before es s ≡ placedOn es s
-  unfolding placedOn placedAfter
-  placed-after s e = ap (λ o. placedIf o es (natAbs s)) (verdict-after before (stationRules es s) e)
+-- ---- a question, with the rules before its own
 
-  pub placed-before : (s : ℤ) {why : Refusal} → verdict before ≡ Refused why → placedAfter before es s ≡ PlacedRefused why
-  unfolding placedAfter placedIf
-  placed-before s e = ap (λ o. placedIf o es (natAbs s)) (refused-before before (stationRules es s) e)
+module _ {A : Type 0} (q : Question A) (before : List Rule) where
+  pub rules-hold : verdict before ≡ Done → answerAfter before q ≡ answerOf q
+  unfolding answerAfter
+  rules-hold e = ap (λ o. answerIf o q) (verdict-after before (q .order) e)
 
-  pub located-after : (p : Point) → verdict before ≡ Done → locatedAfter before es p ≡ locatedOn es p
-  unfolding locatedOn locatedAfter
-  located-after p e = let s = judged es p in ap (λ o. locatedIf o es p s) (verdict-after before (pointRules es p s) e)
-
-  pub located-before : (p : Point) {why : Refusal} → verdict before ≡ Refused why → locatedAfter before es p ≡ LocatedRefused why
-  unfolding locatedAfter locatedIf
-  located-before p e = let s = judged es p in ap (λ o. locatedIf o es p s) (refused-before before (pointRules es p s) e)
-
-  pub inverse-after : (s w : ℤ) → verdict before ≡ Done → inverseAfter before es s w ≡ inverseOn es s w
-  unfolding inverseOn inverseAfter
-  inverse-after s w e = ap (λ o. inverseIf o es s w) (verdict-after before (lineRules es s w) e)
-
-  pub inverse-before : (s w : ℤ) {why : Refusal} → verdict before ≡ Refused why → inverseAfter before es s w ≡ InverseRefused why
-  unfolding inverseAfter inverseIf
-  inverse-before s w e = ap (λ o. inverseIf o es s w) (refused-before before (lineRules es s w) e)
-
--- ---- a crest, by what its own rules come to
-
-module _ (c : Crest) where
-  pub placed-accepted : (s : ℤ) → checkOf c ≡ Done → placed c s ≡ placedOn (c .elements) s
-  unfolding placed
-  placed-accepted s e = placed-after (c .rules) (c .elements) s e
-
-  pub placed-refused : (s : ℤ) {why : Refusal} → checkOf c ≡ Refused why → placed c s ≡ PlacedRefused why
-  unfolding placed
-  placed-refused s e = placed-before (c .rules) (c .elements) s e
-
-  pub located-accepted : (p : Point) → checkOf c ≡ Done → located c p ≡ locatedOn (c .elements) p
-  unfolding located
-  located-accepted p e = located-after (c .rules) (c .elements) p e
-
-  pub located-refused : (p : Point) {why : Refusal} → checkOf c ≡ Refused why → located c p ≡ LocatedRefused why
-  unfolding located
-  located-refused p e = located-before (c .rules) (c .elements) p e
-
-  pub inverse-accepted : (s w : ℤ) → checkOf c ≡ Done → inverse c s w ≡ inverseOn (c .elements) s w
-  unfolding inverse
-  inverse-accepted s w e = inverse-after (c .rules) (c .elements) s w e
-
-  pub inverse-refused : (s w : ℤ) {why : Refusal} → checkOf c ≡ Refused why → inverse c s w ≡ InverseRefused why
-  unfolding inverse
-  inverse-refused s w e = inverse-before (c .rules) (c .elements) s w e
-
-  -- rules that hold before others decide nothing
-  after-both : (rs ss ts : List Rule) → verdict rs ≡ Done → verdict ((rs ++ ss) ++ ts) ≡ verdict (ss ++ ts)
-  after-both rs ss ts e = ap verdict (append-assoc rs ss ts) ∙ verdict-after rs (ss ++ ts) e
-
-  pub answer-accepted : (r : Reading) → checkOf c ≡ Done → answerTo c r ≡ answerOn (c .elements) r
-  unfolding answerTo answerOn answerAfter locatedAfter inverseAfter
-  answer-accepted (PlanePoint x y) e =
-      let es = c .elements in
-      let p : Point = record { x = valueOf (wholeOf x); y = valueOf (wholeOf y) } in
-      let s = judged es p in
-      ap (λ o. fromLocated (locatedIf o es p s)) (after-both (c .rules) (numberRules x y) (pointRules es p s) e)
-  answer-accepted (LinePlace station offset) e =
-      let es = c .elements in
-      let s = valueOf (wholeOf station) in
-      let w = valueOf (wholeOf offset) in
-      ap (λ o. fromInverse (inverseIf o es s w)) (after-both (c .rules) (numberRules station offset) (lineRules es s w) e)
-
-  pub answer-refused : (r : Reading) {why : Refusal} → checkOf c ≡ Refused why → answerTo c r ≡ AnswerRefused why
-  unfolding answerTo answerAfter fromLocated fromInverse
-  answer-refused (PlanePoint x y) e =
-      ap fromLocated (located-before (c .rules ++ numberRules x y) (c .elements) (record { x = valueOf (wholeOf x); y = valueOf (wholeOf y) }) (refused-before (c .rules) (numberRules x y) e))
-  answer-refused (LinePlace station offset) e =
-      ap fromInverse (inverse-before (c .rules ++ numberRules station offset) (c .elements) (valueOf (wholeOf station)) (valueOf (wholeOf offset)) (refused-before (c .rules) (numberRules station offset) e))
-
--- ---- the paper's number, place and values, by the order
+  pub rules-refuse : {why : Refusal} → verdict before ≡ Refused why → answerAfter before q ≡ q .refused why
+  unfolding answerAfter answerIf
+  rules-refuse e = ap (λ o. answerIf o q) (refused-before before (q .order) e)
 
 -- an outcome has no values
-pub outcome-paper : (o : Outcome) → paperOfOutcome o ≡ paperIf o []
+outcome-paper : (o : Outcome) → paperOfOutcome o ≡ paperIf o []
 unfolding paperOfOutcome paperIf
 outcome-paper Done = refl
 outcome-paper (Refused r) = refl
 
-placed-by : (o : Outcome) (es : List Element) (s : ℕ) → let p = positionAt es s in let t = tangentAt es s in paperOfPlaced (placedIf o es s) ≡ paperIf o (p .x ∷ p .y ∷ t .x ∷ t .y ∷ [])
-unfolding paperOfPlaced placedIf paperIf
-placed-by Done es s = refl
-placed-by (Refused r) es s = refl
+pub told-outcome : {o : Outcome} (is : Outcome) → o ≡ is → (o ≡ is) × (paperOfOutcome o ≡ paperIf is [])
+told-outcome is e = (e, ap paperOfOutcome e ∙ outcome-paper is)
 
-pub placed-paper : (c : Crest) (s : ℤ) → paperOfPlaced (placed c s) ≡ placedPaper c s
-unfolding placed placedAfter placedPaper
-placed-paper c s = placed-by (verdict (c .rules ++ stationRules (c .elements) s)) (c .elements) (natAbs s)
+-- ---- what its answers tell
 
-located-by : (o : Outcome) (es : List Element) (p : Point) (s : ℕ) →
-    paperOfLocated (locatedIf o es p s) ≡ paperIf o (pos s ∷ offsetAt es p s ∷ residualAt es p s ∷ pos (visitCount es p) ∷ [])
-unfolding paperOfLocated locatedIf paperIf
-located-by Done es p s = refl
-located-by (Refused r) es p s = refl
+-- rules without a place: "else 0"
+pub data Bare : List Rule → Type 0 where
+  none : Bare []
+  next : {r : Rule} {rs : List Rule} → r .place ≡ 0 → Bare rs → Bare (r ∷ rs)
 
-pub located-paper : (c : Crest) (p : Point) → paperOfLocated (located c p) ≡ locatedPaper c p
-unfolding located locatedAfter locatedPaper locatedPaperAfter
-located-paper c p = let es = c .elements in let s = judged es p in located-by (verdict (c .rules ++ pointRules es p s)) es p s
+-- A question that gives its refusals as `refused` does, without a place: an answer's values are the paper's, a refusal has as many zeros, and no answer is taken for a refusal,
+-- nor one refusal for another.
+pub record Tells {A : Type 0} (refused : Refusal → A) (paperOf : A → PaperAnswer) (q : Question A) : Type 0 where
+  pub refuses : (why : Refusal) → q .refused why ≡ refused why
+  pub values : paperOf (q .answer) ≡ answer (q .values)
+  pub zeros : (why : Refusal) → paperOf (refused why) ≡ refusedWith why (length (q .values))
+  pub apart : (why : Refusal) → q .answer ≡ refused why → ⊥
+  pub one : {v w : Refusal} → refused v ≡ refused w → v ≡ w
+  pub bare : Bare (q .order)
 
-inverse-by : (o : Outcome) (es : List Element) (s w : ℤ) → let q = inverseAt es (natAbs s) w in paperOfInverse (inverseIf o es s w) ≡ paperIf o (q .x ∷ q .y ∷ [])
-unfolding paperOfInverse inverseIf paperIf
-inverse-by Done es s w = refl
-inverse-by (Refused r) es s w = refl
+module _ {A : Type 0} {refused : Refusal → A} {paperOf : A → PaperAnswer} {q : Question A} (tells : Tells refused paperOf q) where
+  pub told-refused : (before : List Rule) {why : Refusal} → verdict before ≡ Refused why → answerAfter before q ≡ refused why
+  told-refused before {why} e = rules-refuse q before e ∙ tells .refuses why
 
-pub inverse-paper : (c : Crest) (s w : ℤ) → paperOfInverse (inverse c s w) ≡ inversePaper c s w
-unfolding inverse inverseAfter inversePaper inversePaperAfter
-inverse-paper c s w = inverse-by (verdict (c .rules ++ lineRules (c .elements) s w)) (c .elements) s w
+  paper-by : (o : Outcome) → paperOf (answerIf o q) ≡ paperIf o (q .values)
+  unfolding answerIf paperIf
+  paper-by Done = tells .values
+  paper-by (Refused why) = ap paperOf (tells .refuses why) ∙ tells .zeros why
 
-move-by : (o : Outcome) (own target : Point) (c s : ℤ) → paperOfMove (moveIf o own target c s) ≡ paperIf o (forwardOf own target c s ∷ leftOf own target c s ∷ [])
-unfolding paperOfMove moveIf moveOf paperIf
-move-by Done own target c s = refl
-move-by (Refused r) own target c s = refl
+  pub told-paper : (before : List Rule) → paperOf (answerAfter before q) ≡ paperAfter before q
+  unfolding answerAfter paperAfter
+  told-paper before = paper-by (verdict (before ++ q .order))
 
-pub move-paper : (own target : Point) (c s : ℤ) → paperOfMove (stakeOut own target c s) ≡ movePaper own target c s
-unfolding stakeOut movePaper
-move-paper own target c s = move-by (verdict (moveRules own target c s)) own target c s
+  -- an answer with the paper's of it
+  pub told : (before : List Rule) {a : A} → a ≡ answerAfter before q → (a ≡ answerAfter before q) × (paperOf a ≡ paperAfter before q)
+  told before e = (e, ap paperOf e ∙ told-paper before)
 
--- a reading has its question's
-from-located : (l : Located) → paperOfReading 4 (fromLocated l) ≡ paperOfLocated l
-unfolding paperOfReading fromLocated paperOfLocated
-from-located (LocatedAt station offset residual visits) = refl
-from-located (LocatedRefused r) = refl
+  -- refused exactly when the order's outcome is, and answered else
+  refused-by : (o : Outcome) (why : Refusal) → (answerIf o q ≡ refused why) ↔ (o ≡ Refused why)
+  unfolding answerIf
+  refused-by Done why = ((λ e. absurd (tells .apart why e)), (λ e. let z : _≡_ {A = ℕ} 0 1 = cc in absurd (omega arith)))
+  refused-by (Refused w) why = ((λ e. ap Refused (tells .one (sym (tells .refuses w) ∙ e))), (λ e. let s : w ≡ why = cc in ap (q .refused) s ∙ tells .refuses why))
 
-from-inverse : (i : Inverse) → paperOfReading 2 (fromInverse i) ≡ paperOfInverse i
-unfolding paperOfReading fromInverse paperOfInverse
-from-inverse (InverseAt x y) = refl
-from-inverse (InverseRefused r) = refl
+  pub told-exactly : (before : List Rule) (why : Refusal) → (answerAfter before q ≡ refused why) ↔ (verdict (before ++ q .order) ≡ Refused why)
+  unfolding answerAfter
+  told-exactly before why = refused-by (verdict (before ++ q .order)) why
 
-pub reading-paper : (c : Crest) (r : Reading) → paperOfReading (valueCount r) (answerTo c r) ≡ readingPaper c r
-unfolding valueCount answerTo answerAfter locatedAfter inverseAfter readingPaper locatedPaperAfter inversePaperAfter
-reading-paper c (PlanePoint x y) =
-    let es = c .elements in
-    let p : Point = record { x = valueOf (wholeOf x); y = valueOf (wholeOf y) } in
-    let s = judged es p in
-    let o = verdict ((c .rules ++ numberRules x y) ++ pointRules es p s) in
-    from-located (locatedIf o es p s) ∙ located-by o es p s
-reading-paper c (LinePlace station offset) =
-    let es = c .elements in
-    let s = valueOf (wholeOf station) in
-    let w = valueOf (wholeOf offset) in
-    let o = verdict ((c .rules ++ numberRules station offset) ++ lineRules es s w) in
-    from-inverse (inverseIf o es s w) ∙ inverse-by o es s w
+  answered-by : (o : Outcome) → (answerIf o q ≡ q .answer) ↔ (o ≡ Done)
+  unfolding answerIf
+  answered-by Done = ((λ e. refl), (λ e. refl))
+  answered-by (Refused w) = ((λ e. absurd (tells .apart w (sym e ∙ tells .refuses w))), (λ e. let z : _≡_ {A = ℕ} 0 1 = cc in absurd (omega arith)))
 
--- on a run: 16 has as many zeros as the question has values
+  pub told-answered : (before : List Rule) → (answerAfter before q ≡ q .answer) ↔ (verdict (before ++ q .order) ≡ Done)
+  unfolding answerAfter
+  told-answered before = answered-by (verdict (before ++ q .order))
+
+  -- what the rules before do not refuse is given exactly when they hold and the question gives it
+  pub told-later : (before : List Rule) {a : A} → ((why : Refusal) → verdict before ≡ Refused why → a ≡ refused why → ⊥) → (answerAfter before q ≡ a) ↔ ((verdict before ≡ Done) × (answerOf q ≡ a))
+  told-later before {a} later = ((λ e. go e (verdict before) refl), (λ x. rules-hold q before (x .0) ∙ x .1))
+    where
+      go : answerAfter before q ≡ a → (o : Outcome) → verdict before ≡ o → (verdict before ≡ Done) × (answerOf q ≡ a)
+      go e Done k = (k, sym (rules-hold q before k) ∙ e)
+      go e (Refused why) k = absurd (later why k (sym e ∙ told-refused before k))
+
+-- ---- each question
+
+pub station-tells : (s : ℤ) (es : List Element) → Tells PlacedRefused paperOfPlaced (stationQuestion s es)
+unfolding stationRules stationQuestion paperOfPlaced
+station-tells s es =
+    record {
+      refuses = λ why. refl;
+      values = refl;
+      zeros = λ why. refl;
+      apart = λ why e. let z : _≡_ {A = ℕ} 0 1 = cc in omega arith;
+      one = λ e. cc;
+      bare = next refl none;
+    }
+
+pub point-tells : (p : Point) (es : List Element) → Tells LocatedRefused paperOfLocated (pointQuestion p es)
+unfolding pointRules pointQuestion paperOfLocated
+point-tells p es =
+    record {
+      refuses = λ why. refl;
+      values = refl;
+      zeros = λ why. refl;
+      apart = λ why e. let z : _≡_ {A = ℕ} 0 1 = cc in omega arith;
+      one = λ e. cc;
+      bare = next refl (next refl (next refl (next refl none)));
+    }
+
+pub place-tells : (s w : ℤ) (es : List Element) → Tells InverseRefused paperOfInverse (placeQuestion s w es)
+unfolding lineRules placeQuestion paperOfInverse
+place-tells s w es =
+    record {
+      refuses = λ why. refl;
+      values = refl;
+      zeros = λ why. refl;
+      apart = λ why e. let z : _≡_ {A = ℕ} 0 1 = cc in omega arith;
+      one = λ e. cc;
+      bare = next refl (next refl none);
+    }
+
+pub move-tells : (own target : Point) (c s : ℤ) → Tells MoveRefused paperOfMove (moveQuestion own target c s)
+unfolding moveRules moveQuestion paperOfMove
+move-tells own target c s =
+    record {
+      refuses = λ why. refl;
+      values = refl;
+      zeros = λ why. refl;
+      apart = λ why e. let z : _≡_ {A = ℕ} 0 1 = cc in omega arith;
+      one = λ e. cc;
+      bare = next refl (next refl (next refl none));
+    }
+
+pub reading-tells : (r : Reading) (es : List Element) → Tells AnswerRefused (paperOfReading (valueCount r)) (readingQuestion r es)
+unfolding numberRules pointRules lineRules readingQuestion numberedQuestion pointQuestion placeQuestion fromLocated fromInverse valueCount paperOfReading
+reading-tells (PlanePoint x y) es =
+    record {
+      refuses = λ why. refl;
+      values = refl;
+      zeros = λ why. refl;
+      apart = λ why e. let z : _≡_ {A = ℕ} 0 1 = cc in omega arith;
+      one = λ e. cc;
+      bare = next refl (next refl (next refl (next refl (next refl none))));
+    }
+reading-tells (LinePlace station offset) es =
+    record {
+      refuses = λ why. refl;
+      values = refl;
+      zeros = λ why. refl;
+      apart = λ why e. let z : _≡_ {A = ℕ} 0 1 = cc in omega arith;
+      one = λ e. cc;
+      bare = next refl (next refl (next refl none));
+    }
+
+-- ---- a reading's question is that of its numbers, after the rule that both are whole
+
+module _ {A : Type 0} (a b : Float) (from : A → ReadingAnswer) (q : Question A) (refuses : (why : Refusal) → from (q .refused why) ≡ AnswerRefused why) (before : List Rule) where
+  numbered-by : (o : Outcome) → answerIf o (numberedQuestion a b from q) ≡ from (answerIf o q)
+  unfolding answerIf numberedQuestion
+  numbered-by Done = refl
+  numbered-by (Refused why) = sym (refuses why)
+
+  pub numbered : answerAfter before (numberedQuestion a b from q) ≡ from (answerAfter (before ++ numberRules a b) q)
+  unfolding answerAfter numberedQuestion
+  numbered = numbered-by (verdict (before ++ (numberRules a b ++ q .order))) ∙ ap (λ rs. from (answerIf (verdict rs) q)) (sym (append-assoc before (numberRules a b) (q .order)))
+
+module _ (before : List Rule) (a b : Float) (es : List Element) where
+  pub plane-asked : answerAfter before (readingQuestion (PlanePoint a b) es) ≡ fromLocated (answerAfter (before ++ numberRules a b) (pointQuestion (record { x = valueOf (wholeOf a); y = valueOf (wholeOf b) }) es))
+  unfolding readingQuestion pointQuestion fromLocated
+  plane-asked = numbered a b fromLocated _ (λ why. refl) before
+
+  pub line-asked : answerAfter before (readingQuestion (LinePlace a b) es) ≡ fromInverse (answerAfter (before ++ numberRules a b) (placeQuestion (valueOf (wholeOf a)) (valueOf (wholeOf b)) es))
+  unfolding readingQuestion placeQuestion fromInverse
+  line-asked = numbered a b fromInverse _ (λ why. refl) before
+
+-- ---- a reading on a run: 16 has as many zeros as the question has values
+
 noted-by : (o : Outcome) (n : ℕ) (p : PaperAnswer) (a : ReadingAnswer) (run : Run) → paperOfReading n a ≡ p → length (p .values) ≡ n → paperOfReading n (notedIf o a run .answer) ≡ notedPaperIf o p
 unfolding paperOfReading notedIf notedPaperIf
 noted-by Done n p a run e l = e
@@ -188,21 +215,18 @@ unfolding paperIf
 paper-values Done values = refl
 paper-values (Refused r) values = length-replicate (length values) (pos 0)
 
-point-values : (before : List Rule) (es : List Element) (p : Point) → length (locatedPaperAfter before es p .values) ≡ 4
-unfolding locatedPaperAfter
-point-values before es p =
-    let s = judged es p in
-    paper-values (verdict (before ++ pointRules es p s)) (pos s ∷ offsetAt es p s ∷ residualAt es p s ∷ pos (visitCount es p) ∷ [])
+value-count : (r : Reading) (es : List Element) → length (readingQuestion r es .values) ≡ valueCount r
+unfolding readingQuestion numberedQuestion pointQuestion placeQuestion valueCount
+value-count (PlanePoint x y) es = refl
+value-count (LinePlace station offset) es = refl
 
-place-values : (before : List Rule) (es : List Element) (s w : ℤ) → length (inversePaperAfter before es s w .values) ≡ 2
-unfolding inversePaperAfter
-place-values before es s w = let q = inverseAt es (natAbs s) w in paper-values (verdict (before ++ lineRules es s w)) (q .x ∷ q .y ∷ [])
+noted-paper : (c : Crest) (r : Reading) (run : Run) → paperOfReading (valueCount r) (noted (answerTo c r) run .answer) ≡ notedPaper (askedPaper (readingQuestion r) c) run
+unfolding noted notedPaper paperAfter
+noted-paper c r run =
+    let q = readingQuestion r (c .elements) in
+    noted-by (verdict (fullRules run)) (valueCount r) (askedPaper (readingQuestion r) c) (answerTo c r) run (told-paper (reading-tells r (c .elements)) (c .rules))
+    (paper-values (verdict (c .rules ++ q .order)) (q .values) ∙ value-count r (c .elements))
 
-pub reading-values : (c : Crest) (r : Reading) → length (readingPaper c r .values) ≡ valueCount r
-unfolding readingPaper valueCount
-reading-values c (PlanePoint x y) = point-values (c .rules ++ numberRules x y) (c .elements) (record { x = valueOf (wholeOf x); y = valueOf (wholeOf y) })
-reading-values c (LinePlace station offset) = place-values (c .rules ++ numberRules station offset) (c .elements) (valueOf (wholeOf station)) (valueOf (wholeOf offset))
-
-pub noted-paper : (c : Crest) (r : Reading) (run : Run) → paperOfReading (valueCount r) (noted (answerTo c r) run .answer) ≡ notedPaper (readingPaper c r) run
-unfolding noted notedPaper
-noted-paper c r run = noted-by (verdict (fullRules run)) (valueCount r) (readingPaper c r) (answerTo c r) run (reading-paper c r) (reading-values c r)
+pub told-noted : (c : Crest) (r : Reading) (run : Run) {n : Noted} → n ≡ noted (answerTo c r) run →
+    (n ≡ noted (answerTo c r) run) × (paperOfReading (valueCount r) (n .answer) ≡ notedPaper (askedPaper (readingQuestion r) c) run)
+told-noted c r run e = (e, ap (λ n. paperOfReading (valueCount r) (n .answer)) e ∙ noted-paper c r run)

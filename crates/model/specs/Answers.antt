@@ -1,5 +1,5 @@
 -- Document 01, "Station, offset, inverse, stake-out" and "Refusal numbers": what each question is answered, refused ones too. A question at a time: its formula, its order
--- of refusals, its answer, and the paper's number, place and values of that.
+-- of refusals, and its answer with the paper's values.
 use Prim.Native.Nat.{ℕ, _*_, _+_}
 use mathlib.Core.Bool.{not, _&&_}
 use mathlib.Core.List.{List, [], _∷_, _++_}
@@ -58,6 +58,40 @@ unfoldable pub paperOfOutcome : Outcome → PaperAnswer
 paperOfOutcome Done = answer []
 paperOfOutcome (Refused r) = refusedWith r 0
 
+-- ---- a question
+
+-- A question whose numbers and elements are known: its refusals in their order; where none applies its answer, and the paper's values of that; and how a refusal is answered.
+pub record Question (A : Type 0) : Type 0 where
+  pub order : List Rule
+  pub answer : A
+  pub values : List ℤ
+  pub refused : Refusal → A
+
+unfoldable pub answerIf : {A : Type 0} → Outcome → Question A → A
+answerIf Done q = q .answer
+answerIf (Refused r) q = q .refused r
+
+-- "Order: .. 1; .. then 10; 11 or 15; ..": after the rules that come before its own
+unfoldable pub answerAfter : {A : Type 0} → List Rule → Question A → A
+unfolding answerIf verdict
+answerAfter before q = answerIf (verdict (before ++ q .order)) q
+
+-- the same by the paper's number, place and values
+unfoldable pub paperAfter : {A : Type 0} → List Rule → Question A → PaperAnswer
+unfolding paperIf verdict
+paperAfter before q = paperIf (verdict (before ++ q .order)) (q .values)
+
+-- Of a crest's elements, whose own refusals come first: "Every entry checks the alignment it is given."
+abbrev pub asked : {A : Type 0} → (List Element → Question A) → Crest → A
+asked question c = answerAfter (c .rules) (question (c .elements))
+
+abbrev pub askedPaper : {A : Type 0} → (List Element → Question A) → Crest → PaperAnswer
+askedPaper question c = paperAfter (c .rules) (question (c .elements))
+
+-- on the elements of an accepted alignment, and where there is no crest
+abbrev pub answerOf : {A : Type 0} → Question A → A
+answerOf q = answerAfter [] q
+
 -- ---- the reader
 
 -- "station, offset or record number out of range", after the crest's own
@@ -90,37 +124,24 @@ unfoldable pub stationRules : List Element → ℤ → List Rule
 unfolding isStation
 stationRules es s = rule₀ askedOutOfRange (isStation es s) ∷ []
 
-unfoldable pub placedIf : Outcome → List Element → ℕ → Placed
-unfolding positionAt tangentAt
-placedIf Done es s = let p = positionAt es s in let t = tangentAt es s in PlacedAt (p .x) (p .y) (t .x) (t .y)
-placedIf (Refused r) es s = PlacedRefused r
+-- X, Y, Tx, Ty
+unfoldable pub stationQuestion : ℤ → List Element → Question Placed
+unfolding stationRules positionAt tangentAt
+stationQuestion s es =
+    let p = positionAt es (natAbs s) in
+    let t = tangentAt es (natAbs s) in
+    record { order = stationRules es s; answer = PlacedAt (p .x) (p .y) (t .x) (t .y); values = p .x ∷ p .y ∷ t .x ∷ t .y ∷ []; refused = PlacedRefused }
 
--- with the rules that come before
-unfoldable pub placedAfter : List Rule → List Element → ℤ → Placed
-unfolding placedIf verdict stationRules
-placedAfter before es s = placedIf (verdict (before ++ stationRules es s)) es (natAbs s)
+-- on the elements of an accepted alignment, and on a crest
+abbrev pub placedOn : List Element → ℤ → Placed
+placedOn es s = answerOf (stationQuestion s es)
 
--- on the elements of an accepted alignment
-unfoldable pub placedOn : List Element → ℤ → Placed
-unfolding placedAfter
-placedOn es s = placedAfter [] es s
-
--- on a crest, whose own refusals come first: "Every entry checks the alignment it is given."
-unfoldable pub placed : Crest → ℤ → Placed
-unfolding placedAfter
-placed c s = placedAfter (c .rules) (c .elements) s
+abbrev pub placed : Crest → ℤ → Placed
+placed c s = asked (stationQuestion s) c
 
 unfoldable pub paperOfPlaced : Placed → PaperAnswer
 paperOfPlaced (PlacedAt x y tx ty) = answer (x ∷ y ∷ tx ∷ ty ∷ [])
 paperOfPlaced (PlacedRefused r) = refusedWith r 4
-
--- the same by the order's outcome: X, Y, Tx, Ty
-unfoldable pub placedPaper : Crest → ℤ → PaperAnswer
-unfolding paperIf verdict stationRules positionAt tangentAt
-placedPaper c s =
-    let p = positionAt (c .elements) (natAbs s) in
-    let t = tangentAt (c .elements) (natAbs s) in
-    paperIf (verdict (c .rules ++ stationRules (c .elements) s)) (p .x ∷ p .y ∷ t .x ∷ t .y ∷ [])
 
 -- ---- station and offset of a point
 
@@ -142,41 +163,27 @@ pointRules es p s =
     ∷ rule₀ afterEnd (not (eqb s (total es) && ltZ (pos pastEnd) (residualAt es p s)))
     ∷ []
 
-unfoldable pub locatedIf : Outcome → List Element → Point → ℕ → Located
-unfolding offsetAt residualAt visitCount
-locatedIf Done es p s = LocatedAt s (offsetAt es p s) (residualAt es p s) (visitCount es p)
-locatedIf (Refused r) es p s = LocatedRefused r
+-- "12 to 14 are decided there, and an answer gives that station." Station, offset, residual and the walk's count.
+unfoldable pub pointQuestion : Point → List Element → Question Located
+unfolding pointRules judged offsetAt residualAt visitCount
+pointQuestion p es =
+    let s = judged es p in
+    let w = offsetAt es p s in
+    let r = residualAt es p s in
+    let n = visitCount es p in
+    record { order = pointRules es p s; answer = LocatedAt s w r n; values = pos s ∷ w ∷ r ∷ pos n ∷ []; refused = LocatedRefused }
 
--- "12 to 14 are decided there, and an answer gives that station." With the rules that come before those of the point.
-unfoldable pub locatedAfter : List Rule → List Element → Point → Located
-unfolding locatedIf verdict pointRules judged
-locatedAfter before es p = let s = judged es p in locatedIf (verdict (before ++ pointRules es p s)) es p s
+-- on the elements of an accepted alignment, and on a crest
+abbrev pub locatedOn : List Element → Point → Located
+locatedOn es p = answerOf (pointQuestion p es)
 
--- on the elements of an accepted alignment
-unfoldable pub locatedOn : List Element → Point → Located
-unfolding locatedAfter
-locatedOn es p = locatedAfter [] es p
-
--- on a crest, whose own refusals come first: "Every entry checks the alignment it is given."
-unfoldable pub located : Crest → Point → Located
-unfolding locatedAfter
-located c p = locatedAfter (c .rules) (c .elements) p
+abbrev pub located : Crest → Point → Located
+located c p = asked (pointQuestion p) c
 
 -- "Every answer to a plane point carries it beside station, offset and residual; a refusal gives 0 for it"
 unfoldable pub paperOfLocated : Located → PaperAnswer
 paperOfLocated (LocatedAt station offset residual visits) = answer (pos station ∷ offset ∷ residual ∷ pos visits ∷ [])
 paperOfLocated (LocatedRefused r) = refusedWith r 4
-
--- the same by the order's outcome: station, offset, residual, visits; with the rules that come before
-unfoldable pub locatedPaperAfter : List Rule → List Element → Point → PaperAnswer
-unfolding paperIf verdict pointRules judged offsetAt residualAt visitCount
-locatedPaperAfter before es p =
-    let s = judged es p in
-    paperIf (verdict (before ++ pointRules es p s)) (pos s ∷ offsetAt es p s ∷ residualAt es p s ∷ pos (visitCount es p) ∷ [])
-
-unfoldable pub locatedPaper : Crest → Point → PaperAnswer
-unfolding locatedPaperAfter
-locatedPaper c p = locatedPaperAfter (c .rules) (c .elements) p
 
 -- ---- the inverse
 
@@ -201,37 +208,23 @@ lineRules es s w =
     ∷ rule₀ outsideFrame (inFrame (q .x) (q .y))
     ∷ []
 
-unfoldable pub inverseIf : Outcome → List Element → ℤ → ℤ → Inverse
-unfolding inverseAt
-inverseIf Done es s w = let q = inverseAt es (natAbs s) w in InverseAt (q .x) (q .y)
-inverseIf (Refused r) es s w = InverseRefused r
+-- X, Y
+unfoldable pub placeQuestion : ℤ → ℤ → List Element → Question Inverse
+unfolding lineRules inverseAt
+placeQuestion s w es =
+    let q = inverseAt es (natAbs s) w in
+    record { order = lineRules es s w; answer = InverseAt (q .x) (q .y); values = q .x ∷ q .y ∷ []; refused = InverseRefused }
 
-unfoldable pub inverseAfter : List Rule → List Element → ℤ → ℤ → Inverse
-unfolding inverseIf verdict lineRules
-inverseAfter before es s w = inverseIf (verdict (before ++ lineRules es s w)) es s w
+-- on the elements of an accepted alignment, and on a crest
+abbrev pub inverseOn : List Element → ℤ → ℤ → Inverse
+inverseOn es s w = answerOf (placeQuestion s w es)
 
--- on the elements of an accepted alignment
-unfoldable pub inverseOn : List Element → ℤ → ℤ → Inverse
-unfolding inverseAfter
-inverseOn es s w = inverseAfter [] es s w
-
--- on a crest, whose own refusals come first: "Every entry checks the alignment it is given."
-unfoldable pub inverse : Crest → ℤ → ℤ → Inverse
-unfolding inverseAfter
-inverse c s w = inverseAfter (c .rules) (c .elements) s w
+abbrev pub inverse : Crest → ℤ → ℤ → Inverse
+inverse c s w = asked (placeQuestion s w) c
 
 unfoldable pub paperOfInverse : Inverse → PaperAnswer
 paperOfInverse (InverseAt x y) = answer (x ∷ y ∷ [])
 paperOfInverse (InverseRefused r) = refusedWith r 2
-
--- the same by the order's outcome: X, Y; with the rules that come before
-unfoldable pub inversePaperAfter : List Rule → List Element → ℤ → ℤ → PaperAnswer
-unfolding paperIf verdict lineRules inverseAt
-inversePaperAfter before es s w = let q = inverseAt es (natAbs s) w in paperIf (verdict (before ++ lineRules es s w)) (q .x ∷ q .y ∷ [])
-
-unfoldable pub inversePaper : Crest → ℤ → ℤ → PaperAnswer
-unfolding inversePaperAfter
-inversePaper c s w = inversePaperAfter (c .rules) (c .elements) s w
 
 -- ---- the stake-out
 
@@ -245,10 +238,6 @@ unfoldable pub leftOf : Point → Point → ℤ → ℤ → ℤ
 unfolding near minus
 leftOf own target c s = let d = minus target own in near (negℤ s *ℤ d .x +ℤ c *ℤ d .y) ONE
 
-unfoldable pub moveOf : Point → Point → ℤ → ℤ → Move
-unfolding forwardOf leftOf
-moveOf own target c s = By (forwardOf own target c s) (leftOf own target c s)
-
 -- "11 ..; 7 for a heading"
 unfoldable pub moveRules : Point → Point → ℤ → ℤ → List Rule
 unfolding inFrame isUnit
@@ -258,21 +247,18 @@ moveRules own target c s =
     ∷ rule₀ notUnit (isUnit c s)
     ∷ []
 
-unfoldable pub moveIf : Outcome → Point → Point → ℤ → ℤ → Move
-unfolding moveOf
-moveIf Done own target c s = moveOf own target c s
-moveIf (Refused r) own target c s = MoveRefused r
+-- "Stake-out (source document 003), own point, target and heading (c, s)": forward, left
+unfoldable pub moveQuestion : Point → Point → ℤ → ℤ → Question Move
+unfolding moveRules forwardOf leftOf
+moveQuestion own target c s =
+    let f = forwardOf own target c s in
+    let l = leftOf own target c s in
+    record { order = moveRules own target c s; answer = By f l; values = f ∷ l ∷ []; refused = MoveRefused }
 
--- "Stake-out (source document 003), own point, target and heading (c, s)"
-unfoldable pub stakeOut : Point → Point → ℤ → ℤ → Move
-unfolding moveIf verdict moveRules
-stakeOut own target c s = moveIf (verdict (moveRules own target c s)) own target c s
+-- it has no crest
+abbrev pub stakeOut : Point → Point → ℤ → ℤ → Move
+stakeOut own target c s = answerOf (moveQuestion own target c s)
 
 unfoldable pub paperOfMove : Move → PaperAnswer
 paperOfMove (By forward left) = answer (forward ∷ left ∷ [])
 paperOfMove (MoveRefused r) = refusedWith r 2
-
--- the same by the order's outcome: forward, left
-unfoldable pub movePaper : Point → Point → ℤ → ℤ → PaperAnswer
-unfolding paperIf verdict moveRules forwardOf leftOf
-movePaper own target c s = paperIf (verdict (moveRules own target c s)) (forwardOf own target c s ∷ leftOf own target c s ∷ [])

@@ -5,8 +5,9 @@ use model::Refusal;
 use model::limits;
 use model::refusals;
 use sources::Form;
+ghost use mathlib.Core.List.{[]};
 ghost use mathlib.Core.Path.{_≡_};
-ghost use Rattle.model.specs.Answers.{locatedOn};
+ghost use Rattle.model.specs.Answers.{paperAfter, pointQuestion, locatedOn, paperOfLocated};
 ghost use Rattle.sources.specs.Sources.{elementsLent, SourceAccepted};
 
 mod sides;
@@ -22,6 +23,7 @@ fn refused(number: u32) -> Located
 pub fn locate(crest: &[u8], amendment: &[u8], form: Form, q: Point) -> Located
     requires { ⌜ SourceAccepted form (now crest) (now amendment) ⌝ }
     ensures { λ r. ⌜ r ≡ locatedOn (elementsLent form (crest .entry) (amendment .entry)) q ⌝ }
+    ensures paper { λ r. ⌜ paperOfLocated r ≡ paperAfter [] (pointQuestion q (elementsLent form (crest .entry) (amendment .entry))) ⌝ }
 {
     if !records::in_frame(q.x, q.y) {
         return refused(refusals::OUTSIDE_FRAME);

@@ -1,11 +1,14 @@
 -- What a call comes to by the size of its room: 18 for another size, and else the answer over the crest's bytes, as it is sent.
 use Prim.Native.Nat.{ℕ}
-use mathlib.Core.List.{List}
+use mathlib.Core.List.{List, _∷_}
 use mathlib.Core.Path.{_≡_, refl, ap, ap₂, _∙_}
 use lib.IntN.{ℤ}
+use lib.Dec.{eqb}
 use lib.ListN.{length}
 use borrow.Author.Tests.{eq-eqb, ne-eqb}
+use Rattle.model.specs.declared.Element.{Element}
 use Rattle.model.specs.declared.Point.{Point}
+use Rattle.model.specs.declared.Refusal.{Refusal}
 use Rattle.model.specs.declared.Placed.{Placed}
 use Rattle.model.specs.declared.Placed.the-variants.{At as PlacedAt, Refused as PlacedRefused}
 use Rattle.model.specs.declared.Located.{Located}
@@ -13,12 +16,13 @@ use Rattle.model.specs.declared.Located.the-variants.{At as LocatedAt, Refused 
 use Rattle.model.specs.declared.Inverse.{Inverse}
 use Rattle.model.specs.declared.Inverse.the-variants.{At as InverseAt, Refused as InverseRefused}
 use Rattle.model.specs.Records.{putAll}
-use Rattle.model.specs.Refusals.{refusal, orRefused, verdict}
+use Rattle.model.specs.Refusals.{refusal, number, rule₀, wrongRoom, orRefused, verdict}
 use Rattle.model.specs.Crest.{Crest}
-use Rattle.model.specs.Answers.{code, paperOfPlaced, paperOfLocated, paperOfInverse, placedIf, placedAfter, placed, locatedIf, locatedAfter, located, inverseIf, inverseAfter, inverse}
+use Rattle.model.specs.Answers.{PaperAnswer, code, Question, answerAfter, asked, stationQuestion, placed, paperOfPlaced, pointQuestion, located, paperOfLocated, placeQuestion, inverse, paperOfInverse}
+use Rattle.model.proofs.Answers.{Tells, told-refused, station-tells, point-tells, place-tells}
 use Rattle.probes.specs.declared.Reply.{Reply}
 use Rattle.probes.specs.Replies.{fromPlaced, fromLocated, fromInverse, replyCode, replyBytes}
-use Rattle.probes.specs.Calls.{roomRules, placedBytes, locatedBytes, inverseBytes, positionCall, locateCall, inverseCall}
+use Rattle.probes.specs.Calls.{twoSize, fourSize, callOf, placedBytes, locatedBytes, inverseBytes, positionCall, locateCall, inverseCall}
 
 -- what a reply leaves
 abbrev pub sent : Reply → List ℕ → ℕ × List ℕ
@@ -42,38 +46,42 @@ unfolding code paperOfInverse inverseBytes putAll fromInverse replyCode replyByt
 inverse-sent (InverseAt x y) room = refl
 inverse-sent (InverseRefused why) room = refl
 
+-- ---- a question of any sort
+
+module _ {A : Type 0} (paperOf : A → PaperAnswer) (bytes : A → List ℕ → List ℕ) (n : ℕ) (question : List Element → Question A) (c : Crest) (room : List ℕ) where
+  call-18 : {refused : Refusal → A} → Tells refused paperOf (question (c .elements)) → ((why : Refusal) → bytes (refused why) room ≡ room) → (length room ≡ n → ⊥) → callOf paperOf bytes n question c room ≡ (18, room)
+  unfolding callOf code verdict orRefused refusal number
+  call-18 tells keeps other =
+      let why = refusal wrongRoom 0 in
+      ap (λ a. (code (paperOf a), bytes a room)) (told-refused tells (rule₀ wrongRoom (eqb (length room) n) ∷ c .rules) (rw (ne-eqb (length room) n other)))
+      ∙ ap₂ (λ (p : PaperAnswer) (l : List ℕ). (code p, l)) (tells .zeros why) (keeps why)
+
+  call-asked : length room ≡ n → callOf paperOf bytes n question c room ≡ (code (paperOf (asked question c)), bytes (asked question c) room)
+  unfolding callOf answerAfter verdict orRefused
+  call-asked sized = rw (eq-eqb (length room) n sized)
+
+-- ---- each call
+
 module _ (c : Crest) (room : List ℕ) where
-  module _ (other : length room ≡ 16 → ⊥) where
+  module _ (other : length room ≡ fourSize → ⊥) where
     pub position-18 : (s : ℤ) → positionCall c s room ≡ (18, room)
-    unfolding positionCall roomRules verdict orRefused refusal placedAfter placedIf code paperOfPlaced placedBytes
-    position-18 s = rw (ne-eqb (length room) 16 other)
+    unfolding placedBytes
+    position-18 s = call-18 paperOfPlaced placedBytes fourSize (stationQuestion s) c room (station-tells s (c .elements)) (λ why. refl) other
 
     pub locate-18 : (p : Point) → locateCall c p room ≡ (18, room)
-    unfolding locateCall roomRules verdict orRefused refusal locatedAfter locatedIf code paperOfLocated locatedBytes
-    locate-18 p = rw (ne-eqb (length room) 16 other)
+    unfolding locatedBytes
+    locate-18 p = call-18 paperOfLocated locatedBytes fourSize (pointQuestion p) c room (point-tells p (c .elements)) (λ why. refl) other
 
-  pub inverse-18 : (length room ≡ 8 → ⊥) → (s w : ℤ) → inverseCall c s w room ≡ (18, room)
-  unfolding inverseCall roomRules verdict orRefused refusal inverseAfter inverseIf code paperOfInverse inverseBytes
-  inverse-18 other s w = rw (ne-eqb (length room) 8 other)
+  pub inverse-18 : (length room ≡ twoSize → ⊥) → (s w : ℤ) → inverseCall c s w room ≡ (18, room)
+  unfolding inverseBytes
+  inverse-18 other s w = call-18 paperOfInverse inverseBytes twoSize (placeQuestion s w) c room (place-tells s w (c .elements)) (λ why. refl) other
 
-  module _ (sized : length room ≡ 16) where
-    position-by : (s : ℤ) → positionCall c s room ≡ (code (paperOfPlaced (placed c s)), placedBytes (placed c s) room)
-    unfolding positionCall roomRules verdict orRefused placedAfter placed
-    position-by s = rw (eq-eqb (length room) 16 sized)
-
+  module _ (sized : length room ≡ fourSize) where
     pub position-call-sent : (s : ℤ) → positionCall c s room ≡ sent (fromPlaced (placed c s)) room
-    position-call-sent s = position-by s ∙ placed-sent (placed c s) room
-
-    locate-by : (p : Point) → locateCall c p room ≡ (code (paperOfLocated (located c p)), locatedBytes (located c p) room)
-    unfolding locateCall roomRules verdict orRefused locatedAfter located
-    locate-by p = rw (eq-eqb (length room) 16 sized)
+    position-call-sent s = call-asked paperOfPlaced placedBytes fourSize (stationQuestion s) c room sized ∙ placed-sent (placed c s) room
 
     pub locate-call-sent : (p : Point) → locateCall c p room ≡ sent (fromLocated (located c p)) room
-    locate-call-sent p = locate-by p ∙ located-sent (located c p) room
+    locate-call-sent p = call-asked paperOfLocated locatedBytes fourSize (pointQuestion p) c room sized ∙ located-sent (located c p) room
 
-  inverse-by : length room ≡ 8 → (s w : ℤ) → inverseCall c s w room ≡ (code (paperOfInverse (inverse c s w)), inverseBytes (inverse c s w) room)
-  unfolding inverseCall roomRules verdict orRefused inverseAfter inverse
-  inverse-by sized s w = rw (eq-eqb (length room) 8 sized)
-
-  pub inverse-call-sent : length room ≡ 8 → (s w : ℤ) → inverseCall c s w room ≡ sent (fromInverse (inverse c s w)) room
-  inverse-call-sent sized s w = inverse-by sized s w ∙ inverse-sent (inverse c s w) room
+  pub inverse-call-sent : length room ≡ twoSize → (s w : ℤ) → inverseCall c s w room ≡ sent (fromInverse (inverse c s w)) room
+  inverse-call-sent sized s w = call-asked paperOfInverse inverseBytes twoSize (placeQuestion s w) c room sized ∙ inverse-sent (inverse c s w) room

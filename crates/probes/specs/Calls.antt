@@ -4,6 +4,7 @@ use mathlib.Core.List.{List, [], _∷_}
 use lib.Dec.{eqb}
 use lib.ListN.{length}
 use lib.IntN.{ℤ}
+use Rattle.model.specs.declared.Element.{Element}
 use Rattle.model.specs.declared.Point.{Point}
 use Rattle.model.specs.declared.Placed.{Placed}
 use Rattle.model.specs.declared.Placed.the-variants.{At as PlacedAt, Refused as PlacedRefused}
@@ -12,50 +13,63 @@ use Rattle.model.specs.declared.Located.the-variants.{At as LocatedAt, Refused 
 use Rattle.model.specs.declared.Inverse.{Inverse}
 use Rattle.model.specs.declared.Inverse.the-variants.{At as InverseAt, Refused as InverseRefused}
 use Rattle.model.specs.Records.{field, putAll, u32Bytes, i32Bytes}
-use Rattle.model.specs.Refusals.{Rule, rule₀, wrongRoom}
+use Rattle.model.specs.Refusals.{rule₀, wrongRoom}
 use Rattle.model.specs.Crest.{Crest}
-use Rattle.model.specs.Answers.{code, paperOfPlaced, paperOfLocated, paperOfInverse, placedAfter, locatedAfter, inverseAfter}
+use Rattle.model.specs.Answers.{PaperAnswer, code, Question, answerAfter, stationQuestion, paperOfPlaced, pointQuestion, paperOfLocated, placeQuestion, paperOfInverse}
 
--- room of n bytes, then the crest's own
-unfoldable pub roomRules : ℕ → List ℕ → Crest → List Rule
-roomRules n room c = rule₀ wrongRoom (eqb (length room) n) ∷ c .rules
+-- room for two numbers of 32 bits and for four, and where each lies
+abbrev pub twoSize : ℕ
+twoSize = 8
+
+abbrev pub fourSize : ℕ
+fourSize = 16
+
+abbrev pub firstAt : ℕ
+firstAt = 0
+
+abbrev pub secondAt : ℕ
+secondAt = 4
+
+abbrev pub thirdAt : ℕ
+thirdAt = 8
+
+abbrev pub fourthAt : ℕ
+fourthAt = 12
+
+-- a question to a crest in room of n bytes: 18 for other room, then the crest's own refusals and the question's
+unfoldable pub callOf : {A : Type 0} → (A → PaperAnswer) → (A → List ℕ → List ℕ) → ℕ → (List Element → Question A) → Crest → List ℕ → ℕ × List ℕ
+unfolding code answerAfter
+callOf paperOf bytes n question c room =
+    let answer = answerAfter (rule₀ wrongRoom (eqb (length room) n) ∷ c .rules) (question (c .elements)) in
+    (code (paperOf answer), bytes answer room)
 
 -- ---- X, Y, Tx, Ty, each i32
 
 unfoldable pub placedBytes : Placed → List ℕ → List ℕ
 unfolding putAll
-placedBytes (PlacedAt x y tx ty) old = putAll old (field 0 (i32Bytes x) ∷ field 4 (i32Bytes y) ∷ field 8 (i32Bytes tx) ∷ field 12 (i32Bytes ty) ∷ [])
+placedBytes (PlacedAt x y tx ty) old = putAll old (field firstAt (i32Bytes x) ∷ field secondAt (i32Bytes y) ∷ field thirdAt (i32Bytes tx) ∷ field fourthAt (i32Bytes ty) ∷ [])
 placedBytes (PlacedRefused r) old = old
 
-unfoldable pub positionCall : Crest → ℤ → List ℕ → ℕ × List ℕ
-unfolding placedAfter roomRules code paperOfPlaced placedBytes
-positionCall c s room =
-    let answer = placedAfter (roomRules 16 room c) (c .elements) s in
-    (code (paperOfPlaced answer), placedBytes answer room)
+abbrev pub positionCall : Crest → ℤ → List ℕ → ℕ × List ℕ
+positionCall c s room = callOf paperOfPlaced placedBytes fourSize (stationQuestion s) c room
 
 -- ---- station, offset, residual, i32, and visits, u32
 
 unfoldable pub locatedBytes : Located → List ℕ → List ℕ
 unfolding putAll
 locatedBytes (LocatedAt station offset residual visits) old =
-    putAll old (field 0 (u32Bytes station) ∷ field 4 (i32Bytes offset) ∷ field 8 (i32Bytes residual) ∷ field 12 (u32Bytes visits) ∷ [])
+    putAll old (field firstAt (u32Bytes station) ∷ field secondAt (i32Bytes offset) ∷ field thirdAt (i32Bytes residual) ∷ field fourthAt (u32Bytes visits) ∷ [])
 locatedBytes (LocatedRefused r) old = old
 
-unfoldable pub locateCall : Crest → Point → List ℕ → ℕ × List ℕ
-unfolding locatedAfter roomRules code paperOfLocated locatedBytes
-locateCall c p room =
-    let answer = locatedAfter (roomRules 16 room c) (c .elements) p in
-    (code (paperOfLocated answer), locatedBytes answer room)
+abbrev pub locateCall : Crest → Point → List ℕ → ℕ × List ℕ
+locateCall c p room = callOf paperOfLocated locatedBytes fourSize (pointQuestion p) c room
 
 -- ---- X, Y, each i32
 
 unfoldable pub inverseBytes : Inverse → List ℕ → List ℕ
 unfolding putAll
-inverseBytes (InverseAt x y) old = putAll old (field 0 (i32Bytes x) ∷ field 4 (i32Bytes y) ∷ [])
+inverseBytes (InverseAt x y) old = putAll old (field firstAt (i32Bytes x) ∷ field secondAt (i32Bytes y) ∷ [])
 inverseBytes (InverseRefused r) old = old
 
-unfoldable pub inverseCall : Crest → ℤ → ℤ → List ℕ → ℕ × List ℕ
-unfolding inverseAfter roomRules code paperOfInverse inverseBytes
-inverseCall c s w room =
-    let answer = inverseAfter (roomRules 8 room c) (c .elements) s w in
-    (code (paperOfInverse answer), inverseBytes answer room)
+abbrev pub inverseCall : Crest → ℤ → ℤ → List ℕ → ℕ × List ℕ
+inverseCall c s w room = callOf paperOfInverse inverseBytes twoSize (placeQuestion s w) c room

@@ -16,6 +16,7 @@ use Rattle.model.specs.Answers.{code, refusedWith}
 use Rattle.codes.specs.Codes.{Small, putTwo}
 use Rattle.probes.specs.declared.Reply.{Reply}
 use Rattle.probes.specs.declared.Reply.the-variants.{Four, Two, Refused}
+use Rattle.probes.specs.Calls.{twoSize, fourSize, firstAt, thirdAt}
 
 unfoldable pub fromPlaced : Placed → Reply
 fromPlaced (PlacedAt x y tx ty) = Four x y tx ty
@@ -37,12 +38,12 @@ replyCode (Refused why) = code (refusedWith why 0)
 
 unfoldable pub replyBytes : Reply → List ℕ → List ℕ
 unfolding put
-replyBytes (Four a b c d) old = putTwo (putTwo old 0 a b) 8 c d
-replyBytes (Two a b) old = putTwo old 0 a b
+replyBytes (Four a b c d) old = putTwo (putTwo old firstAt a b) thirdAt c d
+replyBytes (Two a b) old = putTwo old firstAt a b
 replyBytes (Refused why) old = old
 
 -- a reply whose numbers fit 32 bits, and the room that it is written to; a refusal is small
 unfoldable pub Sendable : ℕ → Reply → Type 0
-Sendable room (Four a b c d) = (room ≡ 16) × SFits w32 a × SFits w32 b × SFits w32 c × SFits w32 d
-Sendable room (Two a b) = (room ≡ 8) × SFits w32 a × SFits w32 b
+Sendable room (Four a b c d) = (room ≡ fourSize) × SFits w32 a × SFits w32 b × SFits w32 c × SFits w32 d
+Sendable room (Two a b) = (room ≡ twoSize) × SFits w32 a × SFits w32 b
 Sendable room (Refused why) = Small (refusedWith why 0)

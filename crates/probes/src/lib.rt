@@ -15,12 +15,16 @@ ghost use lib.ListN.{length};
 ghost use lib.IntN.{pos};
 ghost use Rattle.model.specs.Crest.{fileCrest};
 ghost use Rattle.probes.specs.Replies.{fromPlaced, fromLocated, fromInverse, replyCode, replyBytes, Sendable};
-ghost use Rattle.probes.specs.Calls.{positionCall, locateCall, inverseCall};
+ghost use Rattle.probes.specs.Calls.{fourSize, positionCall, locateCall, inverseCall};
 
-// Room for two numbers of 32 bits, and for four.
+// Room for two numbers of 32 bits and for four, and where the first and the third lie.
 const TWO_SIZE: usize = 8;
 
 const FOUR_SIZE: usize = 16;
+
+const FIRST_AT: usize = 0;
+
+const THIRD_AT: usize = 8;
 
 // What is sent back: numbers of 32 bits for the room, or a refusal.
 pub enum Reply {
@@ -44,7 +48,7 @@ fn from_placed(answer: Placed) -> Reply
 }
 
 fn from_located(answer: Located) -> Reply
-    requires { ⌜ Sendable 16 (fromLocated answer) ⌝ }
+    requires { ⌜ Sendable fourSize (fromLocated answer) ⌝ }
     ensures { λ r. ⌜ r ≡ fromLocated answer ⌝ }
 {
     match answer {
@@ -80,12 +84,12 @@ fn send(reply: Reply, room: &mut [u8]) -> u32
 {
     match reply {
         Reply::Four { a, b, c, d } => {
-            put_two(room, 0, a, b);
-            put_two(room, TWO_SIZE, c, d);
+            put_two(room, FIRST_AT, a, b);
+            put_two(room, THIRD_AT, c, d);
             0
         }
         Reply::Two { a, b } => {
-            put_two(room, 0, a, b);
+            put_two(room, FIRST_AT, a, b);
             0
         }
         Reply::Refused(why) => code_of(why),

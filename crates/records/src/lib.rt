@@ -8,6 +8,7 @@ use model::Refusal;
 use model::layout;
 use model::limits;
 use model::refusals;
+ghost use mathlib.Core.List.{[]};
 ghost use mathlib.Core.Path.{_≡_};
 ghost use Prim.Native.Nat.{_+_, _≤_};
 ghost use mathlib.Core.Bool.{_&&_};
@@ -17,6 +18,7 @@ ghost use Rattle.model.specs.Kinds.{decide};
 ghost use Rattle.model.specs.Records.{i32At, allZero};
 ghost use Rattle.model.specs.Refusals.{verdict};
 ghost use Rattle.model.specs.Acceptance.{kindIn, elementOf, reservedZero, inFrame, radiusGood, rangesGood, isUnit, recordRules};
+ghost use Rattle.model.specs.Answers.{paperIf, paperOfOutcome};
 
 // Whether all bytes are zero.
 pub fn all_zero(s: &[u8]) -> bool
@@ -150,6 +152,7 @@ fn reserved_zero(rec: &[u8]) -> bool
 // The refusal with this number and place.
 pub fn refused(number: u32, place: u32) -> Outcome
     ensures { λ o. ⌜ o ≡ Outcome.Refused (record { number = number; place = place }) ⌝ }
+    ensures paper { λ o. ⌜ paperOfOutcome o ≡ paperIf (Outcome.Refused (record { number = number; place = place })) [] ⌝ }
 {
     Outcome::Refused(Refusal { number, place })
 }
@@ -158,6 +161,7 @@ pub fn refused(number: u32, place: u32) -> Outcome
 pub fn check_record(rec: &[u8], r: u32) -> Outcome
     requires { ⌜ length (now rec) ≡ 32 ⌝ }
     ensures { λ o. ⌜ o ≡ verdict (recordRules (now (rec .entry)) r) ⌝ }
+    ensures paper { λ o. ⌜ paperOfOutcome o ≡ paperIf (verdict (recordRules (now (rec .entry)) r)) [] ⌝ }
 {
     match model::kind_of(rec[layout::KIND_AT]) {
         KindByte::Damaged => return refused(refusals::DAMAGED_RECORD, r),

@@ -19,6 +19,7 @@ ghost use Rattle.model.specs.Records.{recordOf};
 ghost use Rattle.model.specs.Refusals.{verdict};
 ghost use Rattle.model.specs.Acceptance.{elementAt, eachRecord, recordRules};
 ghost use Rattle.sources.specs.Sources.{recordsIn, countIn, startIn, layoutRules, Readable};
+ghost use Rattle.model.specs.Answers.{paperIf, paperOfOutcome};
 
 // How the bytes of a crest are read: as a file, or as records one after the other, which the writer is lent. An amendment is lent beside them; neither form reads it.
 pub enum Form {
@@ -36,6 +37,7 @@ pub fn no_amendment(crest: &[u8]) -> &[u8]
 // What has to hold before a record is read: the blocks of a file, or how many records there are in a row.
 pub fn check_layout(crest: &[u8], amendment: &[u8], form: Form) -> Outcome
     ensures { λ o. ⌜ o ≡ verdict (layoutRules form (now (crest .entry)) (now (amendment .entry))) ⌝ }
+    ensures paper { λ o. ⌜ paperOfOutcome o ≡ paperIf (verdict (layoutRules form (now (crest .entry)) (now (amendment .entry)))) [] ⌝ }
 {
     match form {
         Form::File => check_blocks(crest),
@@ -104,6 +106,7 @@ fn check_in(crest: &[u8], amendment: &[u8], form: Form, r: usize) -> Outcome
 pub fn check_records(crest: &[u8], amendment: &[u8], form: Form) -> Outcome
     requires { ⌜ Readable form (now crest) (now amendment) ⌝ }
     ensures { λ o. ⌜ o ≡ verdict (eachRecord (recordsIn form (now (crest .entry)) (now (amendment .entry)))) ⌝ }
+    ensures paper { λ o. ⌜ paperOfOutcome o ≡ paperIf (verdict (eachRecord (recordsIn form (now (crest .entry)) (now (amendment .entry))))) [] ⌝ }
 {
     let n = count_in(crest, amendment, form);
     let mut r: usize = 0;

@@ -12,28 +12,28 @@ use Rattle.model.specs.Refusals.{verdict, orRefused, refusal, number}
 use Rattle.model.specs.Acceptance.{frame, unitSlack, inFrame, isUnit}
 use Rattle.model.specs.Rounding.{ONE, near}
 use Rattle.model.specs.Judged.{minus}
-use Rattle.model.specs.Answers.{moveOf, moveRules, moveIf, stakeOut}
+use Rattle.model.specs.Answers.{answerIf, answerAfter, forwardOf, leftOf, moveRules, moveQuestion, stakeOut}
 use Rattle.elements.proofs.Extent.{near-turn, unit-within, unit-within′}
 use Rattle.records.proofs.Frame.{framed}
 use Rattle.stakes.specs.StakeRanges.{Stakeable}
 
 module _ (own target : Point) (c s : ℤ) where
   pub own-outside : inFrame (own .x) (own .y) ≡ false → stakeOut own target c s ≡ Refused (record { number = 11; place = 0 })
-  unfolding stakeOut moveIf moveRules verdict orRefused refusal number
+  unfolding answerAfter answerIf moveQuestion moveRules verdict orRefused refusal number
   own-outside h = rw h
 
   module _ (f : inFrame (own .x) (own .y) ≡ true) where
     pub target-outside : inFrame (target .x) (target .y) ≡ false → stakeOut own target c s ≡ Refused (record { number = 11; place = 0 })
-    unfolding stakeOut moveIf moveRules verdict orRefused refusal number
+    unfolding answerAfter answerIf moveQuestion moveRules verdict orRefused refusal number
     target-outside h = rw (f, h)
 
     module _ (g : inFrame (target .x) (target .y) ≡ true) where
       pub no-unit : isUnit c s ≡ false → stakeOut own target c s ≡ Refused (record { number = 7; place = 0 })
-      unfolding stakeOut moveIf moveRules verdict orRefused refusal number
+      unfolding answerAfter answerIf moveQuestion moveRules verdict orRefused refusal number
       no-unit h = rw (f, g, h)
 
-      pub moves : isUnit c s ≡ true → stakeOut own target c s ≡ moveOf own target c s
-      unfolding stakeOut moveIf moveRules verdict orRefused refusal number
+      pub moves : isUnit c s ≡ true → stakeOut own target c s ≡ By (forwardOf own target c s) (leftOf own target c s)
+      unfolding answerAfter answerIf moveQuestion moveRules verdict orRefused refusal number
       moves h = rw (f, g, h)
 
       pub stakeable : isUnit c s ≡ true → Stakeable own target c s
@@ -48,8 +48,8 @@ apart : (a b : ℤ) → natAbs a ≤ frame → natAbs b ≤ frame → natAbs (a 
 apart a b h k = omega (arith, natAbs-- a b)
 
 -- a move along either axis is below 2^30: the products of a component and a difference are at most 400,000,000 times ONE
-moved-small : (own target : Point) (c s : ℤ) {forward left : ℤ} → Stakeable own target c s → moveOf own target c s ≡ By forward left → (natAbs forward ≤ 4 * frame) × (natAbs left ≤ 4 * frame)
-unfolding moveOf minus
+moved-small : (own target : Point) (c s : ℤ) {forward left : ℤ} → Stakeable own target c s → By (forwardOf own target c s) (leftOf own target c s) ≡ By forward left → (natAbs forward ≤ 4 * frame) × (natAbs left ≤ 4 * frame)
+unfolding forwardOf leftOf minus
 moved-small own target c s {forward} {left} k e =
     let dx = target .x -ℤ own .x in
     let dy = target .y -ℤ own .y in

@@ -6,14 +6,15 @@ use model::Refusal;
 use model::refusals;
 use records::in_frame;
 use records::is_unit;
+ghost use mathlib.Core.List.{[]};
 ghost use mathlib.Core.Path.{_≡_};
-ghost use Rattle.model.specs.Answers.{moveOf, stakeOut};
+ghost use Rattle.model.specs.Answers.{paperAfter, forwardOf, leftOf, moveQuestion, stakeOut, paperOfMove};
 ghost use Rattle.stakes.specs.StakeRanges.{Stakeable};
 
 // The move between two points of the frame.
 fn move_by(own: Point, target: Point, c: i64, s: i64) -> Move
     requires { ⌜ Stakeable own target c s ⌝ }
-    ensures { λ r. ⌜ r ≡ moveOf own target c s ⌝ }
+    ensures { λ r. ⌜ r ≡ Move.By (forwardOf own target c s) (leftOf own target c s) ⌝ }
 {
     let dx = target.x - own.x;
     let dy = target.y - own.y;
@@ -26,6 +27,7 @@ fn move_by(own: Point, target: Point, c: i64, s: i64) -> Move
 // The move from a stake's own point to its target under a heading: 11 for either point outside the frame, 7 for a heading that is no unit.
 pub fn stake_out(own: Point, target: Point, c: i64, s: i64) -> Move
     ensures { λ r. ⌜ r ≡ stakeOut own target c s ⌝ }
+    ensures paper { λ r. ⌜ paperOfMove r ≡ paperAfter [] (moveQuestion own target c s) ⌝ }
 {
     if !in_frame(own.x, own.y) {
         return Move::Refused(Refusal {

@@ -12,21 +12,21 @@ use Rattle.model.specs.declared.Inverse.the-variants.{At, Refused}
 use Rattle.model.specs.Refusals.{verdict, orRefused, refusal, number}
 use Rattle.model.specs.Acceptance.{frame, inFrame}
 use Rattle.model.specs.Stations.{isStation}
-use Rattle.model.specs.Answers.{widestOffset, inverseAt, lineRules, inverseIf, inverseAfter, inverseOn}
+use Rattle.model.specs.Answers.{widestOffset, inverseAt, lineRules, answerIf, answerAfter, placeQuestion, inverseOn}
 use Rattle.records.proofs.Frame.{framed}
 
 module _ (es : List Element) (s w : ℤ) where
   pub inverse-off-line : (isStation es s && leb (natAbs w) widestOffset) ≡ false → inverseOn es s w ≡ Refused (record { number = 15; place = 0 })
-  unfolding inverseOn inverseAfter inverseIf lineRules verdict orRefused refusal number
+  unfolding answerAfter answerIf placeQuestion lineRules verdict orRefused refusal number
   inverse-off-line h = rw h
 
   module _ (on : (isStation es s && leb (natAbs w) widestOffset) ≡ true) where
     pub inverse-outside : let q = inverseAt es (natAbs s) w in inFrame (q .x) (q .y) ≡ false → inverseOn es s w ≡ Refused (record { number = 11; place = 0 })
-    unfolding inverseOn inverseAfter inverseIf lineRules verdict orRefused refusal number
+    unfolding answerAfter answerIf placeQuestion lineRules verdict orRefused refusal number
     inverse-outside h = rw (on, h)
 
     pub inverse-inside : let q = inverseAt es (natAbs s) w in inFrame (q .x) (q .y) ≡ true → inverseOn es s w ≡ At (q .x) (q .y)
-    unfolding inverseOn inverseAfter inverseIf lineRules verdict orRefused refusal number
+    unfolding answerAfter answerIf placeQuestion lineRules verdict orRefused refusal number
     inverse-inside h = rw (on, h)
 
 -- a point that is answered lies in the frame

@@ -9,7 +9,7 @@ use Rattle.model.specs.declared.Element.{Element}
 use Rattle.model.specs.declared.Placed.the-variants.{At, Refused}
 use Rattle.model.specs.Refusals.{verdict, orRefused, refusal, number}
 use Rattle.model.specs.Stations.{isStation, positionAt, tangentAt}
-use Rattle.model.specs.Answers.{stationRules, placedIf, placedAfter, placedOn}
+use Rattle.model.specs.Answers.{answerIf, answerAfter, stationRules, stationQuestion, placedOn}
 use Rattle.model.specs.Accepted.{AllAccepted}
 use Rattle.elements.specs.Extent.{Placeable}
 use Rattle.stations.proofs.StationRange.{station-within}
@@ -17,11 +17,11 @@ use Rattle.stations.proofs.StationExtent.{station-placeable}
 
 module _ (es : List Element) (s : ℤ) where
   pub place-refused : isStation es s ≡ false → placedOn es s ≡ Refused (record { number = 15; place = 0 })
-  unfolding placedOn placedAfter placedIf stationRules verdict orRefused refusal number
+  unfolding answerAfter answerIf stationQuestion stationRules verdict orRefused refusal number
   place-refused h = rw h
 
   pub place-done : isStation es s ≡ true → let p = positionAt es (natAbs s) in let t = tangentAt es (natAbs s) in placedOn es s ≡ At (p .x) (p .y) (t .x) (t .y)
-  unfolding placedOn placedAfter placedIf stationRules verdict orRefused
+  unfolding answerAfter answerIf stationQuestion stationRules verdict orRefused
   place-done h = rw h
 
 -- what is answered fits an i32

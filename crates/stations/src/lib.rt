@@ -14,6 +14,7 @@ use sources::Form;
 use sources::count_in;
 use sources::element_in;
 ghost use mathlib.Core.Bool.{_&&_};
+ghost use mathlib.Core.List.{[]};
 ghost use mathlib.Core.Path.{_≡_};
 ghost use Prim.Native.Nat.{_≤_, _<_, _^_};
 ghost use lib.Dec.{leb};
@@ -21,7 +22,7 @@ ghost use lib.IntN.{natAbs, _*ℤ_};
 ghost use Rattle.model.specs.Stations.{atElement, atStation, positionAt, tangentAt, isStation, total as totalOf};
 ghost use Rattle.elements.specs.Reached.{placementOf};
 ghost use Rattle.model.specs.Rounding.{ONE, near};
-ghost use Rattle.model.specs.Answers.{placedOn, widestOffset, inverseAt, inverseOn};
+ghost use Rattle.model.specs.Answers.{paperAfter, stationQuestion, placedOn, paperOfPlaced, widestOffset, inverseAt, placeQuestion, inverseOn, paperOfInverse};
 ghost use Rattle.model.specs.Accepted.{Accepted};
 ghost use Rattle.sources.specs.Sources.{elementsLent, SourceAccepted};
 
@@ -105,6 +106,7 @@ fn is_station(crest: &[u8], amendment: &[u8], form: Form, s: i64) -> bool
 pub fn place(crest: &[u8], amendment: &[u8], form: Form, s: i64) -> Placed
     requires { ⌜ SourceAccepted form (now crest) (now amendment) ⌝ }
     ensures { λ r. ⌜ r ≡ placedOn (elementsLent form (crest .entry) (amendment .entry)) s ⌝ }
+    ensures paper { λ r. ⌜ paperOfPlaced r ≡ paperAfter [] (stationQuestion s (elementsLent form (crest .entry) (amendment .entry))) ⌝ }
 {
     if !is_station(crest, amendment, form, s) {
         return Placed::Refused(Refusal {
@@ -160,6 +162,7 @@ fn inverse_at(crest: &[u8], amendment: &[u8], form: Form, s: u64, w: i64) -> Poi
 pub fn inverse(crest: &[u8], amendment: &[u8], form: Form, s: i64, w: i64) -> Inverse
     requires { ⌜ SourceAccepted form (now crest) (now amendment) ⌝ }
     ensures { λ r. ⌜ r ≡ inverseOn (elementsLent form (crest .entry) (amendment .entry)) s w ⌝ }
+    ensures paper { λ r. ⌜ paperOfInverse r ≡ paperAfter [] (placeQuestion s w (elementsLent form (crest .entry) (amendment .entry))) ⌝ }
 {
     if !on_line(crest, amendment, form, s, w) {
         return Inverse::Refused(Refusal {

@@ -27,9 +27,10 @@ use Rattle.model.specs.Crest.{Crest, checkOf, isOwn}
 use Rattle.model.specs.Stations.{total, D}
 use Rattle.model.specs.Judged.{judged, residualAt, offsetAt}
 use Rattle.model.specs.Walk.{firstVisits, secondVisits, visits, visitCount}
-use Rattle.model.specs.Answers.{farthest, pastEnd, pointRules, locatedIf, locatedAfter, locatedOn, located}
+use Rattle.model.specs.Answers.{farthest, pastEnd, pointRules, answerIf, answerAfter, pointQuestion, locatedOn, located}
+use Rattle.model.proofs.Answers.{told-exactly, point-tells}
 use Rattle.model.proofs.Verdict.{AllHold, none, more, done→all, all→done}
-use Rattle.walk_laws.proofs.Crest.{located-exactly}
+use Rattle.walk_laws.proofs.Crest.{asked-exactly}
 use Rattle.walk_laws.proofs.Reasons.{first-holds, rest-hold, Lacks, empty, other, given-exactly}
 
 -- ---- the table's conditions, each where none before it applies
@@ -69,20 +70,15 @@ holds-unless false f = ((λ e. let z : _≡_ {A = ℕ} 0 1 = cc in absurd (omega
 
 -- ---- from the verdict to the answer
 
-pub located-if-refused : (o : Outcome) (es : List Element) (p : Point) (s : ℕ) (w : Refusal) → (locatedIf o es p s ≡ LocatedRefused w) ↔ (o ≡ Refused w)
-unfolding locatedIf
-located-if-refused Done es p s w = ((λ e. let z : _≡_ {A = ℕ} 0 1 = cc in absurd (omega arith)), (λ e. let z : _≡_ {A = ℕ} 0 1 = cc in absurd (omega arith)))
-located-if-refused (Refused r) es p s w = ((λ e. cc), (λ e. cc))
-
 pub count-is : (es : List Element) (p : Point) → visitCount es p ≡ length (firstVisits (total es)) + length (secondVisits es p)
 unfolding visitCount visits
 count-is es p = length-append (firstVisits (total es)) (secondVisits es p)
 
-located-at : (o : Outcome) (es : List Element) (p : Point) (s station : ℕ) (offset residual : ℤ) (count : ℕ) → (locatedIf o es p s ≡ LocatedAt station offset residual count) ↔
+located-at : (o : Outcome) (es : List Element) (p : Point) (station : ℕ) (offset residual : ℤ) (count : ℕ) → let s = judged es p in (answerIf o (pointQuestion p es) ≡ LocatedAt station offset residual count) ↔
     ((o ≡ Done) × (station ≡ s) × (offset ≡ offsetAt es p s) × (residual ≡ residualAt es p s) × (count ≡ visitCount es p))
-unfolding locatedIf
-located-at Done es p s station offset residual count = ((λ e. (refl, cc, cc, cc, cc)), (λ x. cc (x .1, x .2, x .3, x .4)))
-located-at (Refused r) es p s station offset residual count = ((λ e. let z : _≡_ {A = ℕ} 0 1 = cc in absurd (omega arith)), (λ x. let z : _≡_ {A = ℕ} 0 1 = cc (x .0) in absurd (omega arith)))
+unfolding answerIf pointQuestion
+located-at Done es p station offset residual count = ((λ e. (refl, cc, cc, cc, cc)), (λ x. cc (x .1, x .2, x .3, x .4)))
+located-at (Refused r) es p station offset residual count = ((λ e. let z : _≡_ {A = ℕ} 0 1 = cc in absurd (omega arith)), (λ x. let z : _≡_ {A = ℕ} 0 1 = cc (x .0) in absurd (omega arith)))
 
 -- ---- each outcome
 
@@ -119,11 +115,8 @@ module _ (es : List Element) (p : Point) where
 
   refused-by : (before : List Rule) (r : Rule) (after : List Rule) → before ++ (r ∷ after) ≡ (frame ∷ near ∷ start ∷ end ∷ []) →
       Lacks (number (r .why)) before → Lacks (number (r .why)) after → (locatedOn es p ≡ LocatedRefused (refusal (r .why) (r .place))) ↔ (AllHold before × (r .holds ≡ false))
-  unfolding locatedOn locatedAfter pointRules
-  refused-by before r after split k l =
-      Iff·trans
-      (located-if-refused (verdict (frame ∷ near ∷ start ∷ end ∷ [])) es p (judged es p) (refusal (r .why) (r .place)))
-      (rw split at (given-exactly r after l before k))
+  unfolding pointQuestion pointRules
+  refused-by before r after split k l = Iff·trans (told-exactly (point-tells p es) [] (refusal (r .why) (r .place))) (rw split at (given-exactly r after l before k))
 
   pub outside-frame : (locatedOn es p ≡ LocatedRefused (refusal outsideFrame 0)) ↔ (inFrame (p .x) (p .y) ≡ false)
   unfolding number
@@ -158,8 +151,8 @@ module _ (es : List Element) (p : Point) where
       )
 
   pub answered : (station : ℕ) (offset residual : ℤ) (count : ℕ) → (locatedOn es p ≡ LocatedAt station offset residual count) ↔ Answered es p station offset residual count
-  unfolding locatedOn locatedAfter pointRules
-  answered station offset residual count = Iff·trans (located-at (verdict rules) es p (judged es p) station offset residual count) (parts, whole)
+  unfolding answerAfter pointQuestion pointRules
+  answered station offset residual count = Iff·trans (located-at (verdict rules) es p station offset residual count) (parts, whole)
     where
       rules : List Rule
       rules = frame ∷ near ∷ start ∷ end ∷ []
@@ -194,7 +187,7 @@ module _ (es : List Element) (p : Point) where
 module _ (c : Crest) (own : Gives isOwn (c .rules)) (p : Point) where
   -- an outcome that no crest gives of its own, with the condition C over elements
   on-crest : (l : Located) {C : Type 0} → ((w : Refusal) → l ≡ LocatedRefused w → isOwn (w .number) ≡ false) → (locatedOn (c .elements) p ≡ l) ↔ C → (located c p ≡ l) ↔ ((checkOf c ≡ Done) × C)
-  on-crest l later e = Iff·trans (located-exactly c own p l later) ((λ x. (x .0, e .0 (x .1))), (λ x. (x .0, e .1 (x .1))))
+  on-crest l later e = Iff·trans (asked-exactly (pointQuestion p) c (point-tells p (c .elements)) own l later) ((λ x. (x .0, e .0 (x .1))), (λ x. (x .0, e .1 (x .1))))
 
   refused-on-crest : (why : Reason) {C : Type 0} → isOwn (number why) ≡ false → (locatedOn (c .elements) p ≡ LocatedRefused (refusal why 0)) ↔ C → (located c p ≡ LocatedRefused (refusal why 0)) ↔ ((checkOf c ≡ Done) × C)
   unfolding refusal

@@ -51,7 +51,7 @@ module _ (c : tie.After-stake-out) where
   moved : c .stake-out .result ≡ stakeOut own target (start .args .heading-c) (start .args .heading-s)
   moved =
       let p = c .before in
-      c .stake-out .ensures
+      c .stake-out .ensures .0
       ∙ same-stake (as-came (start .fits .own-x) (start .fits .own-y) (p .before .point .ensures)) (as-came (start .fits .target-x) (start .fits .target-y) (p .point2 .ensures)) (wide (start .args .heading-c) (start .fits .heading-c)) (wide (start .args .heading-s) (start .fits .heading-s))
 
 answer-move-requires : tie.Need-answer-move-requires

@@ -29,7 +29,7 @@ returns : tie.Need-returns
 unfolding writeCall
 returns c =
     let w = c .before .before .before .write .ensures in
-    ap₂ (λ (r : ℕ) (l : List ℕ). (r, l)) (c .outcome-code .ensures ∙ ap (λ (o : Outcome). code (paperOfOutcome o)) (w .0)) (w .1)
+    ap₂ (λ (r : ℕ) (l : List ℕ). (r, l)) (c .outcome-code .ensures ∙ ap (λ (o : Outcome). code (paperOfOutcome o)) (w .0)) (w .1 .0)
 
 pub crest-write-spec : {M : Type 1} → statement M
 crest-write-spec = tie.close (tie.spec write-requires outcome-code-requires same-length returns)

@@ -19,7 +19,7 @@ use Rattle.element_probe.proofs.element_positions.Tie as tie
 
 module _ (c : tie.After-element) where
   accepted : verdict (recordRules (now (c .before .before .before .before .before .before .args .rec)) 0) ≡ Done
-  accepted = sym (c .before .before .before .check-record .ensures) ∙ c .before .enum-told2 .given .1
+  accepted = sym (c .before .before .before .check-record .ensures .0) ∙ c .before .enum-told2 .given .1
 
 returns : tie.Need-returns
 returns c = sym (of-other-length _ _ (c .if1 .taken))
@@ -43,7 +43,7 @@ positions-requires : tie.Need-positions-requires
 positions-requires c κs = search needs
 
 returns-2 : tie.Need-returns-2
-returns-2 c = sym (of-refused _ _ (c .before .before .before .if1 .left) (sym (c .before .before .check-record .ensures) ∙ c .enum-told .given .1))
+returns-2 c = sym (of-refused _ _ (c .before .before .before .if1 .left) (sym (c .before .before .check-record .ensures .0) ∙ c .enum-told .given .1))
 
 returns-3 : tie.Need-returns-3
 returns-3 c =

@@ -1,10 +1,7 @@
 -- `entries::answer` meets its contract: a file is one form of a crest.
-use mathlib.Core.Path.{ap, _∙_}
 use borrow.Author.Needs.{needs}
 use Rattle.model.specs.Acceptance.{crestRules, crestElements}
 use Rattle.sources.specs.Sources.{layoutRules, recordsIn}
-use Rattle.model.specs.Readings.{paperOfReading}
-use Rattle.model.proofs.Answers.{reading-paper}
 use Rattle.entries.proofs.answer.Statement.{statement}
 use Rattle.entries.proofs.answer.Tie as tie
 
@@ -16,7 +13,7 @@ answer-requires c κs = search needs
 
 returns : tie.Need-returns
 unfolding crestRules crestElements layoutRules recordsIn
-returns c = let e = c .answer .ensures in (e, ap (paperOfReading _) e ∙ reading-paper _ _)
+returns c = c .answer .ensures
 
 pub answer-spec : {M : Type 1} → statement M
 answer-spec = tie.close (tie.spec no-amendment-requires answer-requires returns)

@@ -1,10 +1,7 @@
 -- `entries::check` meets its contract: a file is one form of a crest.
-use mathlib.Core.Path.{ap, _∙_}
 use borrow.Author.Needs.{needs}
 use Rattle.model.specs.Acceptance.{crestRules, checked}
-use Rattle.model.specs.Answers.{paperOfOutcome}
 use Rattle.sources.specs.Sources.{layoutRules, recordsIn}
-use Rattle.model.proofs.Answers.{outcome-paper}
 use Rattle.entries.proofs.check.Statement.{statement}
 use Rattle.entries.proofs.check.Tie as tie
 
@@ -16,7 +13,7 @@ check-requires c κs = search needs
 
 returns : tie.Need-returns
 unfolding checked crestRules layoutRules recordsIn
-returns c = let e = c .check .ensures in (e, ap paperOfOutcome e ∙ outcome-paper _)
+returns c = c .check .ensures
 
 pub check-spec : {M : Type 1} → statement M
 check-spec = tie.close (tie.spec no-amendment-requires check-requires returns)

@@ -1,11 +1,8 @@
 -- `entries::inverse` meets its contract: a file is one form of a crest.
-use mathlib.Core.Path.{ap, _∙_}
 use borrow.Author.Needs.{needs}
 use mir.Facts.{toZ-ofZ}
 use Rattle.model.specs.Acceptance.{crestRules, crestElements}
 use Rattle.sources.specs.Sources.{layoutRules, recordsIn}
-use Rattle.model.specs.Answers.{paperOfInverse}
-use Rattle.model.proofs.Answers.{inverse-paper}
 use Rattle.entries.proofs.inverse.Statement.{statement}
 use Rattle.entries.proofs.inverse.Tie as tie
 
@@ -19,8 +16,7 @@ returns : tie.Need-returns
 unfolding crestRules crestElements layoutRules recordsIn
 returns c =
     let s = c .before .before .before in
-    let e = rw (toZ-ofZ (s .fits .s), toZ-ofZ (s .fits .w)) at (c .inverse .ensures) in
-    (e, ap paperOfInverse e ∙ inverse-paper _ _ _)
+    rw (toZ-ofZ (s .fits .s), toZ-ofZ (s .fits .w)) at (c .inverse .ensures)
 
 pub inverse-spec : {M : Type 1} → statement M
 inverse-spec = tie.close (tie.spec no-amendment-requires inverse-requires returns)

@@ -1,10 +1,7 @@
 -- `entries::locate` meets its contract: a file is one form of a crest.
-use mathlib.Core.Path.{ap, _∙_}
 use borrow.Author.Needs.{needs}
 use Rattle.model.specs.Acceptance.{crestRules, crestElements}
 use Rattle.sources.specs.Sources.{layoutRules, recordsIn}
-use Rattle.model.specs.Answers.{paperOfLocated}
-use Rattle.model.proofs.Answers.{located-paper}
 use Rattle.entries.proofs.locate.Statement.{statement}
 use Rattle.entries.proofs.locate.Tie as tie
 
@@ -16,7 +13,7 @@ locate-requires c κs = search needs
 
 returns : tie.Need-returns
 unfolding crestRules crestElements layoutRules recordsIn
-returns c = let e = c .locate .ensures in (e, ap paperOfLocated e ∙ located-paper _ _)
+returns c = c .locate .ensures
 
 pub locate-spec : {M : Type 1} → statement M
 locate-spec = tie.close (tie.spec no-amendment-requires locate-requires returns)

@@ -4,8 +4,7 @@ use borrow.Author.Needs.{needs}
 use Rattle.model.specs.declared.Noted.{Noted}
 use Rattle.model.specs.declared.Display.{Display}
 use Rattle.model.specs.Crest.{fileCrest}
-use Rattle.model.specs.Readings.{valueCount, paperOfReading, displayOf}
-use Rattle.model.proofs.Answers.{noted-paper}
+use Rattle.model.specs.Readings.{displayOf}
 use Rattle.sources.proofs.Sound.{file-sound}
 use Rattle.readings.proofs.Narrow.{stored}
 use Rattle.answers.proofs.Storable.{noted-storable}
@@ -17,15 +16,14 @@ note-file-requires : tie.Need-note-file-requires
 note-file-requires c κs = search needs
 
 display-requires : tie.Need-display-requires
-display-requires c κs = stored (ap (λ n. n .answer) (sym (c .before .note-file .ensures))) (noted-storable (fileCrest _) (file-sound _) _ _)
+display-requires c κs = stored (ap (λ n. n .answer) (sym (c .before .note-file .ensures .0))) (noted-storable (fileCrest _) (file-sound _) _ _)
 
 returns : tie.Need-returns
 unfolding notedReading
 returns c =
-    let asked = c .before .before .before .before .args .reading in
     let told = c .before .before .note-file .ensures in
-    let shown = c .display .ensures ∙ ap (λ n. displayOf (n .answer)) told in
-    (ap₂ (λ (n : Noted) (d : Display). record { answer = n .answer; display = d; run = n .run }) told shown, ap (λ (n : Noted). paperOfReading (valueCount asked) (n .answer)) told ∙ noted-paper _ asked _)
+    let shown = c .display .ensures ∙ ap (λ n. displayOf (n .answer)) (told .0) in
+    (ap₂ (λ (n : Noted) (d : Display). record { answer = n .answer; display = d; run = n .run }) (told .0) shown, told .1)
 
 pub note-spec : {M : Type 1} → statement M
 note-spec = tie.close (tie.spec note-file-requires display-requires returns)

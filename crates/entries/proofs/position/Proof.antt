@@ -1,11 +1,8 @@
 -- `entries::position` meets its contract: a file is one form of a crest.
-use mathlib.Core.Path.{ap, _∙_}
 use borrow.Author.Needs.{needs}
 use mir.Facts.{toZ-ofZ}
 use Rattle.model.specs.Acceptance.{crestRules, crestElements}
 use Rattle.sources.specs.Sources.{layoutRules, recordsIn}
-use Rattle.model.specs.Answers.{paperOfPlaced}
-use Rattle.model.proofs.Answers.{placed-paper}
 use Rattle.entries.proofs.position.Statement.{statement}
 use Rattle.entries.proofs.position.Tie as tie
 
@@ -17,7 +14,7 @@ position-requires c κs = search needs
 
 returns : tie.Need-returns
 unfolding crestRules crestElements layoutRules recordsIn
-returns c = let e = rw (toZ-ofZ (c .before .before .before .fits .s)) at (c .position .ensures) in (e, ap paperOfPlaced e ∙ placed-paper _ _)
+returns c = rw (toZ-ofZ (c .before .before .before .fits .s)) at (c .position .ensures)
 
 pub position-spec : {M : Type 1} → statement M
 position-spec = tie.close (tie.spec no-amendment-requires position-requires returns)

@@ -1,8 +1,5 @@
 -- `entries::record_outcome` meets its contract: the reader's outcome, and its number and place.
-use mathlib.Core.Path.{ap, _∙_}
 use borrow.Author.Needs.{needs}
-use Rattle.model.specs.Answers.{paperOfOutcome}
-use Rattle.model.proofs.Answers.{outcome-paper}
 use Rattle.entries.proofs.record_outcome.Statement.{statement}
 use Rattle.entries.proofs.record_outcome.Tie as tie
 
@@ -10,7 +7,7 @@ record-outcome-requires : tie.Need-record-outcome-requires
 record-outcome-requires c κs = search needs
 
 returns : tie.Need-returns
-returns c = let e = c .record-outcome .ensures in (e, ap paperOfOutcome e ∙ outcome-paper _)
+returns c = c .record-outcome .ensures
 
 pub record-outcome-spec : {M : Type 1} → statement M
 record-outcome-spec = tie.close (tie.spec record-outcome-requires returns)

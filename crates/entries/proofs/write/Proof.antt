@@ -1,8 +1,5 @@
 -- `entries::write` meets its contract: the writer's outcome, its number and place, and the room.
-use mathlib.Core.Path.{ap, _∙_}
 use borrow.Author.Needs.{needs}
-use Rattle.model.specs.Answers.{paperOfOutcome}
-use Rattle.model.proofs.Answers.{outcome-paper}
 use Rattle.entries.proofs.write.Statement.{statement}
 use Rattle.entries.proofs.write.Tie as tie
 
@@ -10,7 +7,7 @@ write-requires : tie.Need-write-requires
 write-requires c κs = search needs
 
 returns : tie.Need-returns
-returns c = let e = c .before .before .write .ensures in (e .0, (e .1, ap paperOfOutcome (e .0) ∙ outcome-paper _))
+returns c = c .before .before .write .ensures
 
 same-length : tie.Need-same-length
 same-length c = search needs

@@ -47,9 +47,9 @@ use Rattle.model.specs.declared.Reading.{Reading}
 use Rattle.model.specs.declared.ReadingAnswer.{ReadingAnswer}
 use Rattle.model.specs.declared.Run.{Run}
 use Rattle.model.specs.Crest.{fileCrest}
-use Rattle.model.specs.Readings.{answerTo, valueCount, paperOfReading, readingPaper}
+use Rattle.model.specs.Answers.{askedPaper}
+use Rattle.model.specs.Readings.{readingQuestion, answerTo, valueCount, paperOfReading}
 use Rattle.model.specs.Run.{noted, notedPaper}
-use Rattle.model.proofs.Answers.{noted-paper}
 use Rattle.model.proofs.Noted as N
 use Rattle.model.proofs.Noted.Laws as N′
 use Rattle.model.proofs.Reading as R
@@ -99,6 +99,10 @@ module _ {M : Type 1} (𝓤 : URA M) (H : Heap 𝓤) (A : Atoms 𝓤) (W : Given
   abbrev Own : Fml
   Own = ShrSlice (named 0) κ u8 .own s (v ∷ [])
 
+  -- what the step ensures of what came back
+  abbrev Says : Noted → Type 0
+  Says r = (r ≡ noted (answerTo (fileCrest (now s)) g) h) × (paperOfReading (valueCount g) (r .answer) ≡ notedPaper (askedPaper (readingQuestion g) (fileCrest (now s))) h)
+
   abbrev Post : Val → SProp 𝓤
   Post = walkOf 𝓤 H A f.ended stayed (f.clauses 𝓤 H A at-mem run) .post (((κ, (κ′, tt)), (q, (q′, tt)), bounds, x, at), tt)
 
@@ -109,15 +113,11 @@ module _ {M : Type 1} (𝓤 : URA M) (H : Heap 𝓤) (A : Atoms 𝓤) (W : Given
   run-is : (r : Noted) (w : Val) → Is N.the-row r (w ∷ []) → Is T.the-row (r .run) (mach (r .run) ∷ [])
   run-is r w is = LL.owed N.the-type N′.the-laws r _ is .1 .0
 
-  -- and of its number, place and values
-  paper : (r : Noted) → r ≡ noted (answerTo (fileCrest (now s)) g) h → paperOfReading (valueCount g) (r .answer) ≡ notedPaper (readingPaper (fileCrest (now s)) g) h
-  paper r e = ap (λ (n : Noted). paperOfReading (valueCount g) (n .answer)) e ∙ noted-paper (fileCrest (now s)) g h
-
-  exits : (r : Noted) (w : Val) → Is N.the-row r (w ∷ []) → r ≡ noted (answerTo (fileCrest (now s)) g) h
+  exits : (r : Noted) (w : Val) → Is N.the-row r (w ∷ []) → Says r
       → ent 𝓤 (⋆ 𝓤 H A (‵ (fobs γ (T.the-row .coded .code (r .run))) ∷ ‵ (fbor κ′ (Body (mem T.the-row) b o γ)) ∷ ‵ (flft κ′ q′) ∷ (‵ (flft κ q) ⊛ ‵ ftrue) ∷ ‵ Own ∷ [])) (Post (says-back (r .answer)))
   exits r w is e =
       qed W (‵ (fobs γ (T.the-row .coded .code (r .run))) ∷ ‵ (fbor κ′ (Body (mem T.the-row) b o γ)) ∷ ‵ (flft κ′ q′) ∷ (‵ (flft κ q) ⊛ ‵ ftrue) ∷ ‵ Own ∷ []) ∵
-      suffices ! _ (ends-at 𝓤 H A f.ended stayed (f.clauses 𝓤 H A at-mem run) W (((κ, (κ′, tt)), (q, (q′, tt)), bounds, x, at), tt) (says-back (r .answer)) (r .answer) (tt, (tt, (r .run, tt))) (tt, (tt, (tt, tt)))) $ says ! (e, paper r e) $
+      suffices ! _ (ends-at 𝓤 H A f.ended stayed (f.clauses 𝓤 H A at-mem run) W (((κ, (κ′, tt)), (q, (q′, tt)), bounds, x, at), tt) (says-back (r .answer)) (r .answer) (tt, (tt, (r .run, tt))) (tt, (tt, (tt, tt)))) $ says ! e $
       move ! (3 ∷ []) $ split ! $ move ! (4 ∷ 1 ∷ []) $ join ! $ move ! (1 ∷ 0 ∷ []) $ join ! $ frame ! $
       feqI ! (List Val) (vptr b o ∷ []) (vptr b o ∷ []) refl $ fjoin3 ! $ nothing ! $ move ! (1 ∷ 0 ∷ []) $ fjoin ! $
       owned ! R.the-row (Is R.the-row) ((EL.makes R.the-type R′.the-plain) 𝓤 H A) g _ given $ fjoin ! $ move ! (1 ∷ 0 ∷ []) $ fjoin ! $
@@ -132,8 +132,8 @@ module _ {M : Type 1} (𝓤 : URA M) (H : Heap 𝓤) (A : Atoms 𝓤) (W : Given
       owned ! R.the-row (Is R.the-row) ((EL.makes R.the-type R′.the-plain) 𝓤 H A) g _ given $ fjoin ! $ move ! (2 ∷ 0 ∷ []) $ fjoin ! $ move ! (1 ∷ 0 ∷ []) $ join ! $ frame ! $ done !
 
   -- of what the step ensures, the clause alone: it has no `&mut`, so what is said of last values is dropped
-  said : (r : Noted) → ent 𝓤 (ensured 𝓤 H A step.ended (step.clauses 𝓤 H A at-mem run) (κ, tt) (s, (g, (h, tt))) tt r) (fact 𝓤 (r ≡ noted (answerTo (fileCrest (now s)) g) h))
-  said r = exE 𝓤 _ (λ ws. snd∗ 𝓤 (sem 𝓤 H A (lasts step.ended (κ, tt) (s, (g, (h, tt))) ws)) (fact 𝓤 (r ≡ noted (answerTo (fileCrest (now s)) g) h)))
+  said : (r : Noted) → ent 𝓤 (ensured 𝓤 H A step.ended (step.clauses 𝓤 H A at-mem run) (κ, tt) (s, (g, (h, tt))) tt r) (fact 𝓤 (Says r))
+  said r = exE 𝓤 _ (λ ws. snd∗ 𝓤 (sem 𝓤 H A (lasts step.ended (κ, tt) (s, (g, (h, tt))) ws)) (fact 𝓤 (Says r)))
 
   module _ (C : Calls 𝓤 H) (Λ : Loops 𝓤 H) (fm : FmC 𝓤 H (W .laws) C) (known : Triple 𝓤 (C #step) (Step 𝓤 H A at-mem run)) where
     walk : Is (ShrSlice (named 0) κ u8) s (v ∷ []) → ent 𝓤 (onEntry 𝓤 H A f.signature (κ, (κ′, tt)) (q, (q′, tt)) x at) (WpFn 𝓤 H C Λ code.function (v ∷ asks ∷ vptr b o ∷ []) Post)
@@ -152,7 +152,7 @@ module _ {M : Type 1} (𝓤 : URA M) (H : Heap 𝓤) (A : Atoms 𝓤) (W : Given
         use2 W (raw (Step 𝓤 H A at-mem run .pre to-step)) (goes-step was) $
         calls-at ! fm (Step 𝓤 H A at-mem run) known to-step (and-then ! (load ! (from ! (stop !)) (look ! 15 refl)) (and-then ! (load ! (from ! (stop !)) (look ! 13 refl)) (and-then ! (load ! (from ! (stop !)) (look ! 7 refl)) (no-more !)))) (λ w.
         use1 W (later (some (λ (r : Noted). ((‵ (flft κ q) ⊛ ‵ ftrue) ⊛ ‵ (N.the-row .own r (w ∷ []))) ⊛ raw (ensured 𝓤 H A step.ended (step.clauses 𝓤 H A at-mem run) (κ, tt) (s, (g, (h, tt))) tt r)))) (id⊢ 𝓤 _) $ await ! tt $ pick ! (λ r.
-        split ! $ move ! (1 ∷ []) $ use1 W (raw (fact 𝓤 (r ≡ noted (answerTo (fileCrest (now s)) g) h))) (said r) $ heard ! (r ≡ noted (answerTo (fileCrest (now s)) g) h) (λ e. split ! $ move ! (1 ∷ []) $
+        split ! $ move ! (1 ∷ []) $ use1 W (raw (fact 𝓤 (Says r))) (said r) $ heard ! (Says r) (λ e. split ! $ move ! (1 ∷ []) $
         peeks ! N.the-row (Is N.the-row) (shows 𝓤 H A N.the-row) r (w ∷ []) (λ is.
         -- [what a Noted owns; the crest's token; what the crest owns; the run's cell; what the old Run owns; the open borrow; obs; auth; _5; …; _4; …; _3; …; _2; …; _1; …; room for _0; …]
         land ! (from ! (stop !)) (init ! 10 refl (LL.lawful N.the-type N′.the-laws 𝓤 H A W .typed r _ is .0)) $

@@ -47,7 +47,7 @@ unfolding verdict placedRules orRefused refusal number
 returns c =
     let k = c .before .before in
     let g = k .before .before .before in
-    rw (gap-tested g, not-true (g .close-by .result) (c .before .if1 .taken)) (c .refused .ensures)
+    rw (gap-tested g, not-true (g .close-by .result) (c .before .if1 .taken)) (c .refused .ensures .0)
 
 refused-requires-2 : tie.Need-refused-requires-2
 refused-requires-2 c κs = search needs
@@ -58,7 +58,7 @@ returns-2 c =
     let d = c .before .before in
     let k = d .before in
     let g = k .before .before .before in
-    rw (gap-tested g, not-false (g .close-by .result) (d .if1 .left), kink-tested k, not-true (k .close-by2 .result) (c .before .if2 .taken)) (c .refused2 .ensures)
+    rw (gap-tested g, not-false (g .close-by .result) (d .if1 .left), kink-tested k, not-true (k .close-by2 .result) (c .before .if2 .taken)) (c .refused2 .ensures .0)
 
 returns-3 : tie.Need-returns-3
 unfolding verdict placedRules orRefused refusal number

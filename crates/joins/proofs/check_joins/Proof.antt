@@ -6,6 +6,7 @@ use borrow.Author.Needs.{needs}
 use Rattle.model.specs.declared.Element.{Element}
 use Rattle.model.specs.Refusals.{verdict}
 use Rattle.model.specs.Acceptance.{eachJoin}
+use Rattle.model.proofs.Answers.{told-outcome}
 use Rattle.crestfile.proofs.Orders.{left-all, left-next, left-refused, left-none}
 use Rattle.sources.specs.Sources.{recordsIn}
 use Rattle.sources.proofs.RecordsRead.{elementIn, RecordsRead, read-asks, read-count, read-accepted}
@@ -97,7 +98,7 @@ unfolding eachJoin
 returns c =
     let t = c .before .before .before in
     let l = t .before .before .before .before .before .loop in
-    sym (left-refused _ _ (omega (arith, l .inv .reading .all)) (tested t ∙ c .before .x .given .1) (l .inv .left))
+    told-outcome _ (sym (left-refused _ _ (omega (arith, l .inv .reading .all)) (tested t ∙ c .before .x .given .1) (l .inv .left)))
 
 enum-told : tie.Need-enum-told Inv-loop μ-loop
 enum-told c = search needs
@@ -133,7 +134,7 @@ returns-2 : tie.Need-returns-2 Inv-loop μ-loop
 unfolding eachJoin
 returns-2 c =
     let l = c .before .loop in
-    sym (left-none _ _ (omega (arith, l .inv .reading .all)) (l .inv .left))
+    told-outcome _ (sym (left-none _ _ (omega (arith, l .inv .reading .all)) (l .inv .left)))
 
 pub check-joins-spec : {M : Type 1} → statement M
 check-joins-spec =

@@ -1,6 +1,6 @@
 -- `nearest::locate` meets its contract: the code makes the tests of document 01's order at the station judged.
 use mathlib.Core.Bool.{true, _&&_}
-use mathlib.Core.List.{List}
+use mathlib.Core.List.{List, []}
 use mathlib.Core.Path.{_≡_, sym, _∙_, ap, ap₂, subst}
 use Prim.Native.Nat.{ℕ, _≤_}
 use native.Mathlib.Omega.{arith}
@@ -19,6 +19,7 @@ use Rattle.model.specs.Stations.{total, positionAt, tangentAt, D}
 use Rattle.model.specs.Judged.{judged, residualAt, offsetAt}
 use Rattle.model.specs.Walk.{visitCount}
 use Rattle.model.specs.Answers.{farthest, pastEnd}
+use Rattle.model.proofs.Answers.{told, point-tells}
 use Rattle.model.proofs.Judged.{judged-least}
 use Rattle.elements.specs.declared.Placement.{Placement}
 use Rattle.elements.specs.Extent.{Placeable}
@@ -41,9 +42,9 @@ in-frame q e = let b = within-frame (q .x) (q .y) e in record { x = b .0; y = b 
 framed : (c : tie.After-in-frame) → let q = c .before .before .before .before .before .args .q in c .in-frame .result ≡ inFrame (q .x) (q .y)
 framed c =
     let q = c .before .before .before .before .before .args .q in
-    let told = c .before .struct-told2 .given in
-    let x = toZ-ofZ {w = w64} {z = q .x} (record { sfits = told .0 .1 }) in
-    let y = toZ-ofZ {w = w64} {z = q .y} (record { sfits = told .1 .0 .1 }) in
+    let given = c .before .struct-told2 .given in
+    let x = toZ-ofZ {w = w64} {z = q .x} (record { sfits = given .0 .1 }) in
+    let y = toZ-ofZ {w = w64} {z = q .y} (record { sfits = given .1 .0 .1 }) in
     c .in-frame .ensures ∙ ap₂ inFrame x y
 
 inside : (c : tie.Else1) → let q = c .before .before .before .before .before .before .args .q in inFrame (q .x) (q .y) ≡ true
@@ -137,7 +138,7 @@ returns : tie.Need-returns
 returns c =
     let f = c .before .before in
     let a = f .before .before .before .before .before .args in
-    c .refused .ensures ∙ sym (gives-11 (elementsLent (a .form) (a .crest) (a .amendment)) (a .q) (sym (framed f) ∙ not-true _ (c .before .if1 .taken)))
+    told (point-tells _ _) [] (c .refused .ensures ∙ sym (gives-11 (elementsLent (a .form) (a .crest) (a .amendment)) (a .q) (sym (framed f) ∙ not-true _ (c .before .if1 .taken))))
 
 walk-requires : tie.Need-walk-requires
 walk-requires c κs = let a = c .before .before .before .before .before .before in (a .pre, in-frame (a .args .q) (inside c))
@@ -148,7 +149,7 @@ refused-requires-2 c κs = search needs
 returns-2 : tie.Need-returns-2
 returns-2 c =
     let w = c .before .before .before in
-    c .refused2 .ensures ∙ sym (gives-12 (es w) (q w) (inside (w .before)) (omega (arith, best-is w, c .before .if2 .taken)))
+    told (point-tells _ _) [] (c .refused2 .ensures ∙ sym (gives-12 (es w) (q w) (inside (w .before)) (omega (arith, best-is w, c .before .if2 .taken))))
 
 placed-at-requires : tie.Need-placed-at-requires
 placed-at-requires c κs = let w = c .before .before in (start w .pre, at-within w)
@@ -172,7 +173,7 @@ returns-3 c =
     let b = c .before .before in
     let d = b .before .before in
     let w = walked d in
-    c .refused3 .ensures ∙ sym (gives-13 (es w) (q w) (inside (w .before)) (near (d .before .before)) (sym (before-tested b) ∙ c .before .if3 .taken))
+    told (point-tells _ _) [] (c .refused3 .ensures ∙ sym (gives-13 (es w) (q w) (inside (w .before)) (near (d .before .before)) (sym (before-tested b) ∙ c .before .if3 .taken)))
 
 total-requires : tie.Need-total-requires
 total-requires c κs = search needs
@@ -188,7 +189,7 @@ returns-4 c =
     let b = c .before .before in
     let d = b .before .before .before .before .before .before in
     let w = walked d in
-    c .refused4 .ensures ∙ sym (gives-14 (es w) (q w) (inside (w .before)) (near (d .before .before)) (sym (after-tested b) ∙ c .before .if4 .taken))
+    told (point-tells _ _) [] (c .refused4 .ensures ∙ sym (gives-14 (es w) (q w) (inside (w .before)) (near (d .before .before)) (sym (after-tested b) ∙ c .before .if4 .taken)))
 
 returns-5 : tie.Need-returns-5
 returns-5 c =
@@ -196,13 +197,16 @@ returns-5 c =
     let no = b .before .before .before in
     let d = no .before .before .before in
     let w = walked d in
-    let told = c .struct-told5 .given in
-    answer-is
+    let given = c .struct-told5 .given in
+    told
+    (point-tells _ _)
+    []
+    (answer-is
     (at-is w)
-    (toZ-ofZ (record { sfits = told .1 .0 .1 }) ∙ offset-is d)
-    (toZ-ofZ (record { sfits = told .0 .1 }) ∙ residual-is d)
+    (toZ-ofZ (record { sfits = given .1 .0 .1 }) ∙ offset-is d)
+    (toZ-ofZ (record { sfits = given .0 .1 }) ∙ residual-is d)
     (visits-is w)
-    ∙ sym (gives-answer (es w) (q w) (inside (w .before)) (near (d .before .before)) (sym (before-tested (no .before)) ∙ no .if3 .left) (sym (after-tested b) ∙ c .before .if4 .left))
+    ∙ sym (gives-answer (es w) (q w) (inside (w .before)) (near (d .before .before)) (sym (before-tested (no .before)) ∙ no .if3 .left) (sym (after-tested b) ∙ c .before .if4 .left)))
 
 pub locate-spec : {M : Type 1} → statement M
 locate-spec =

@@ -8,6 +8,7 @@ use Rattle.model.specs.Answers.{located}
 use Rattle.codes.proofs.Widths.{as-came}
 use Rattle.sources.proofs.Sound.{file-sound}
 use Rattle.probes.specs.Replies.{fromLocated, Sendable}
+use Rattle.probes.specs.Calls.{fourSize}
 use Rattle.probes.proofs.Rooms.{locate-18, locate-call-sent, sent-as}
 use Rattle.probes.proofs.Sent.{same-sendable, located-sendable}
 use borrow.Author.Needs.{needs}
@@ -39,7 +40,7 @@ module _ (c : tie.After-locate) where
   answered = c .locate .ensures .0 ∙ ap (located crest) (as-came (start .fits .x) (start .fits .y) (c .before .point .ensures))
 
 from-located-requires : tie.Need-from-located-requires
-from-located-requires c κs = subst (λ (a : Located). Sendable 16 (fromLocated a)) (sym (answered c)) (located-sendable (crest c) (file-sound _) (q c))
+from-located-requires c κs = subst (λ (a : Located). Sendable fourSize (fromLocated a)) (sym (answered c)) (located-sendable (crest c) (file-sound _) (q c))
 
 reply : (c : tie.After-from-located) → c .from-located .result ≡ fromLocated (located (crest (c .before)) (q (c .before)))
 reply c = c .from-located .ensures ∙ ap fromLocated (answered (c .before))

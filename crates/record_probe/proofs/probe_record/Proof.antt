@@ -36,7 +36,7 @@ module _ (c : tie.After-record-part) where
   start = outcome .before .before .before .before
 
   done : readerOutcome (now (start .args .file)) (start .args .r) ≡ Done
-  done = sym (outcome .record-outcome .ensures) ∙ c .before .before .enum-told .given .1
+  done = sym (outcome .record-outcome .ensures .0) ∙ c .before .before .enum-told .given .1
 
   sized : length (now (start .args .out)) ≡ 32
   sized = outcome .before .if1 .left
@@ -55,7 +55,7 @@ code-of-requires : tie.Need-code-of-requires
 code-of-requires c κs =
     let o = c .before .before .before in
     let a = o .before .before .before .before .args in
-    refusal-small (now (a .file)) (a .r) (sym (o .record-outcome .ensures) ∙ c .before .why .given .1)
+    refusal-small (now (a .file)) (a .r) (sym (o .record-outcome .ensures .0) ∙ c .before .why .given .1)
 
 same-length : tie.Need-same-length
 same-length c = search needs
@@ -74,7 +74,7 @@ returns-3 c =
     let o = k .before .before in
     let a = o .before .before .before .before .args in
     ap (λ (n : ℕ). (n, now (a .out))) (c .code-of .ensures)
-    ∙ sym (refused (now (a .file)) (a .r) (now (a .out)) (o .before .if1 .left) (sym (o .record-outcome .ensures) ∙ k .why .given .1))
+    ∙ sym (refused (now (a .file)) (a .r) (now (a .out)) (o .before .if1 .left) (sym (o .record-outcome .ensures .0) ∙ k .why .given .1))
 
 pub probe-record-spec : {M : Type 1} → statement M
 probe-record-spec =

@@ -16,6 +16,7 @@ use Rattle.model.specs.Kinds.{decide}
 use Rattle.model.specs.Records.{byteAt}
 use Rattle.model.specs.Refusals.{verdict, orRefused, refusal, number, damagedRecord, fieldOutOfRange, notUnit}
 use Rattle.model.specs.Acceptance.{isDamaged, isLater, reservedZero, rangesGood, isUnit, elementOf, recordRules}
+use Rattle.model.proofs.Answers.{told-outcome}
 use Rattle.records.proofs.check_record.Statement.{statement}
 use Rattle.records.proofs.check_record.Tie as tie
 
@@ -67,7 +68,7 @@ returns : tie.Need-returns
 unfolding verdict recordRules orRefused refusal number isDamaged isLater
 returns c =
     let d = c .before in
-    rw (decided (d .before .before) (d .enum-told .given .1)) (c .refused .ensures)
+    told-outcome _ (rw (decided (d .before .before) (d .enum-told .given .1)) (c .refused .ensures .0))
 
 enum-told-2 : tie.Need-enum-told-2
 enum-told-2 c = search needs
@@ -79,7 +80,7 @@ returns-2 : tie.Need-returns-2
 unfolding verdict recordRules orRefused refusal number isDamaged isLater
 returns-2 c =
     let d = c .before in
-    rw (decided (d .before .before) (d .enum-told2 .given .1)) (c .refused2 .ensures)
+    told-outcome _ (rw (decided (d .before .before) (d .enum-told2 .given .1)) (c .refused2 .ensures .0))
 
 enum-told-3 : tie.Need-enum-told-3
 enum-told-3 c = search needs
@@ -94,7 +95,7 @@ returns-3 : tie.Need-returns-3
 unfolding orRefused refusal number
 returns-3 c =
     let t = c .before in
-    rw (known (t .before .before), ← t .before .reserved-zero .ensures, not-true (t .before .reserved-zero .result) (t .if1 .taken)) (c .refused3 .ensures)
+    told-outcome _ (rw (known (t .before .before), ← t .before .reserved-zero .ensures, not-true (t .before .reserved-zero .result) (t .if1 .taken)) (c .refused3 .ensures .0))
 
 element-requires : tie.Need-element-requires
 element-requires c κs = search needs
@@ -110,7 +111,7 @@ unfolding orRefused refusal number
 returns-4 c =
     let r = c .before .before in
     let e = r .before .before in
-    rw (known (e .before .before), reserved e, ranges-tested r, not-true (r .ranges-good .result) (c .before .if2 .taken)) (c .refused4 .ensures)
+    told-outcome _ (rw (known (e .before .before), reserved e, ranges-tested r, not-true (r .ranges-good .result) (c .before .if2 .taken)) (c .refused4 .ensures .0))
 
 is-unit-requires : tie.Need-is-unit-requires
 is-unit-requires c κs = search needs
@@ -124,8 +125,8 @@ returns-5 c =
     let u = c .before .before in
     let r = u .before .before .before .before in
     let e = r .before .before in
-    rw (known (e .before .before), reserved e, ranges-tested r, not-false (r .ranges-good .result) (u .before .before .before .if2 .left), ← r .before .element .ensures, unit-tested u, not-true (u .is-unit .result) (c .before .if3 .taken))
-    (c .refused5 .ensures)
+    told-outcome _ (rw (known (e .before .before), reserved e, ranges-tested r, not-false (r .ranges-good .result) (u .before .before .before .if2 .left), ← r .before .element .ensures, unit-tested u, not-true (u .is-unit .result) (c .before .if3 .taken))
+    (c .refused5 .ensures .0))
 
 returns-6 : tie.Need-returns-6
 unfolding orRefused refusal number
@@ -133,7 +134,7 @@ returns-6 c =
     let u = c .before in
     let r = u .before .before .before .before in
     let e = r .before .before in
-    rw (known (e .before .before), reserved e, ranges-tested r, not-false (r .ranges-good .result) (u .before .before .before .if2 .left), ← r .before .element .ensures, unit-tested u, not-false (u .is-unit .result) (c .if3 .left))
+    told-outcome _ (rw (known (e .before .before), reserved e, ranges-tested r, not-false (r .ranges-good .result) (u .before .before .before .if2 .left), ← r .before .element .ensures, unit-tested u, not-false (u .is-unit .result) (c .if3 .left)))
 
 pub check-record-spec : {M : Type 1} → statement M
 check-record-spec =

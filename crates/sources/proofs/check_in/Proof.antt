@@ -38,7 +38,7 @@ check-record-requires c κs = here c .1
 returns : tie.Need-returns
 returns c =
     let s = c .before .before .before .before .before in
-    c .check-record .ensures ∙ ap (λ x. verdict (recordRules x (s .args .r))) (here (c .before) .0)
+    c .check-record .ensures .0 ∙ ap (λ x. verdict (recordRules x (s .args .r))) (here (c .before) .0)
 
 pub check-in-spec : {M : Type 1} → statement M
 check-in-spec = tie.close (tie.spec start-in-requires part-at-requires cast-check-record check-record-requires returns)

@@ -2,6 +2,7 @@
 use mathlib.Core.Path.{sym, _∙_}
 use borrow.Author.Needs.{needs}
 use Rattle.model.specs.Refusals.{refusal, recordCount}
+use Rattle.model.proofs.Answers.{told-outcome}
 use Rattle.crestfile.proofs.Orders.{one-done, one-refused}
 use Rattle.sources.specs.Sources.{layoutRules}
 use Rattle.sources.proofs.check_layout.Statement.{statement}
@@ -24,15 +25,15 @@ refused-requires c κs = search needs
 
 returns : tie.Need-returns
 unfolding layoutRules
-returns c = rw (c .before .enum-told .given .1) (c .check-blocks .ensures)
+returns c = told-outcome _ (rw (c .before .enum-told .given .1) (c .check-blocks .ensures .0))
 
 returns-2 : tie.Need-returns-2
 unfolding layoutRules
-returns-2 c = rw (c .before .before .enum-told2 .given .1) (sym (one-done recordCount 0 (sym (c .before .count-fits .ensures) ∙ c .if1 .taken)))
+returns-2 c = told-outcome _ (rw (c .before .before .enum-told2 .given .1) (sym (one-done recordCount 0 (sym (c .before .count-fits .ensures) ∙ c .if1 .taken))))
 
 returns-3 : tie.Need-returns-3
 unfolding layoutRules refusal
-returns-3 c = rw (c .before .before .before .enum-told2 .given .1) (c .refused .ensures ∙ sym (one-refused recordCount 0 (sym (c .before .before .count-fits .ensures) ∙ c .before .if1 .left)))
+returns-3 c = told-outcome _ (rw (c .before .before .before .enum-told2 .given .1) (c .refused .ensures .0 ∙ sym (one-refused recordCount 0 (sym (c .before .before .count-fits .ensures) ∙ c .before .if1 .left))))
 
 pub check-layout-spec : {M : Type 1} → statement M
 check-layout-spec = tie.close (tie.spec enum-told check-blocks-requires enum-told-2 count-fits-requires refused-requires returns returns-2 returns-3)

@@ -7,6 +7,7 @@ use borrow.Author.Needs.{needs}
 use Rattle.model.specs.Records.{recordOf}
 use Rattle.model.specs.Refusals.{Rule}
 use Rattle.model.specs.Acceptance.{recordRules, eachRecord}
+use Rattle.model.proofs.Answers.{told-outcome}
 use Rattle.crestfile.proofs.Orders.{Left, left-all, left-next, left-refused, left-none}
 use Rattle.sources.specs.Sources.{recordsIn, countIn}
 use Rattle.sources.proofs.Records.{records-counted}
@@ -40,7 +41,7 @@ unfolding eachRecord
 returns c =
     let t = c .before .before .before in
     let l = t .before .before .loop in
-    rw (← (l .inv .0)) (sym (left-refused _ _ (omega arith) (sym (t .check-in .ensures) ∙ c .before .x .given .1) (l .inv .1)))
+    told-outcome _ (rw (← (l .inv .0)) (sym (left-refused _ _ (omega arith) (sym (t .check-in .ensures) ∙ c .before .x .given .1) (l .inv .1))))
 
 enum-told : tie.Need-enum-told Inv-loop μ-loop
 enum-told c = search needs
@@ -64,7 +65,7 @@ returns-2 : tie.Need-returns-2 Inv-loop μ-loop
 unfolding eachRecord
 returns-2 c =
     let l = c .before .loop in
-    rw (← (l .inv .0)) (sym (left-none _ _ (omega (arith, c .loop-test .left)) (l .inv .1)))
+    told-outcome _ (rw (← (l .inv .0)) (sym (left-none _ _ (omega (arith, c .loop-test .left)) (l .inv .1))))
 
 pub check-records-spec : {M : Type 1} → statement M
 check-records-spec =

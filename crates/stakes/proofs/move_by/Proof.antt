@@ -8,7 +8,7 @@ use Rattle.integers.proofs.Machine.{Env, env, machine, fits-machine, by-machine
 use Rattle.model.specs.Rounding.{ONE, near}
 use Rattle.model.specs.Acceptance.{frame}
 use Rattle.model.specs.Judged.{minus}
-use Rattle.model.specs.Answers.{moveOf}
+use Rattle.model.specs.Answers.{forwardOf, leftOf}
 use Rattle.elements.specs.Rounded.{Summable}
 use Rattle.elements.proofs.Widths.{held}
 use Rattle.stakes.proofs.move_by.Statement.{statement}
@@ -75,7 +75,7 @@ near-sum-requires-2 : tie.Need-near-sum-requires-2
 near-sum-requires-2 c κs = left-asks (start (c .before))
 
 returns : tie.Need-returns
-unfolding moveOf minus
+unfolding forwardOf leftOf minus
 returns c =
     let b = start (c .before .before) in
     let f = toZ-ofZ {w = w64} (record { sfits = c .before .near-sum .ok }) ∙ c .before .near-sum .ensures ∙ ap (λ (z : ℤ). near z ONE) (forward b) in

@@ -1,13 +1,16 @@
 -- `stakes::stake_out` meets its contract: the tests in the order of the rules, then the move.
 use mathlib.Core.Bool.{true}
+use mathlib.Core.List.{[]}
 use mathlib.Core.Path.{_≡_, sym, ap₂, _∙_}
 use borrow.Author.Needs.{needs}
 use borrow.Author.Tests.{not-true, not-false}
 use lib.IntN.{ℤ}
 use mir.Facts.{toZ-ofZ}
 use mir.Syntax.{w64}
+use Rattle.model.specs.declared.Move.the-variants.{By}
 use Rattle.model.specs.Acceptance.{inFrame, isUnit}
-use Rattle.model.specs.Answers.{moveOf}
+use Rattle.model.specs.Answers.{forwardOf, leftOf}
+use Rattle.model.proofs.Answers.{told, move-tells}
 use Rattle.stakes.proofs.StakeAnswers.{own-outside, target-outside, no-unit, moves, stakeable}
 use Rattle.stakes.proofs.stake_out.Statement.{statement}
 use Rattle.stakes.proofs.stake_out.Tie as tie
@@ -49,7 +52,7 @@ in-frame-requires c κs = search needs
 returns : tie.Need-returns
 returns c =
     let a = c .before .before .before .before .args in
-    sym (own-outside (a .own) (a .target) (a .c) (a .s) (own-tested (c .before) ∙ not-true _ (c .if1 .taken)))
+    told (move-tells _ _ _ _) [] (sym (own-outside (a .own) (a .target) (a .c) (a .s) (own-tested (c .before) ∙ not-true _ (c .if1 .taken))))
 
 in-frame-requires-2 : tie.Need-in-frame-requires-2
 in-frame-requires-2 c κs = search needs
@@ -57,7 +60,7 @@ in-frame-requires-2 c κs = search needs
 returns-2 : tie.Need-returns-2
 returns-2 c =
     let a = c .before .before .before .before .before .before .before .before .args in
-    sym (target-outside (a .own) (a .target) (a .c) (a .s) (own-in (c .before .before .before .before)) (target-tested (c .before) ∙ not-true _ (c .if2 .taken)))
+    told (move-tells _ _ _ _) [] (sym (target-outside (a .own) (a .target) (a .c) (a .s) (own-in (c .before .before .before .before)) (target-tested (c .before) ∙ not-true _ (c .if2 .taken))))
 
 is-unit-requires : tie.Need-is-unit-requires
 is-unit-requires c κs = search needs
@@ -66,7 +69,7 @@ returns-3 : tie.Need-returns-3
 returns-3 c =
     let e = c .before .before in
     let a = start e .args in
-    sym (no-unit (a .own) (a .target) (a .c) (a .s) (own-in-2 e) (target-in e) (unit-tested (c .before) ∙ not-true _ (c .if3 .taken)))
+    told (move-tells _ _ _ _) [] (sym (no-unit (a .own) (a .target) (a .c) (a .s) (own-in-2 e) (target-in e) (unit-tested (c .before) ∙ not-true _ (c .if3 .taken))))
 
 move-by-requires : tie.Need-move-by-requires
 move-by-requires c κs =
@@ -80,9 +83,12 @@ returns-4 c =
     let e = c .before .before .before in
     let a = start e .args in
     let f = start e .fits in
-    c .move-by .ensures
-    ∙ ap₂ (λ (x y : ℤ). moveOf (a .own) (a .target) x y) (toZ-ofZ (f .c)) (toZ-ofZ (f .s))
-    ∙ sym (moves (a .own) (a .target) (a .c) (a .s) (own-in-2 e) (target-in e) (unit (c .before)))
+    told
+    (move-tells _ _ _ _)
+    []
+    (c .move-by .ensures
+    ∙ ap₂ (λ (x y : ℤ). By (forwardOf (a .own) (a .target) x y) (leftOf (a .own) (a .target) x y)) (toZ-ofZ (f .c)) (toZ-ofZ (f .s))
+    ∙ sym (moves (a .own) (a .target) (a .c) (a .s) (own-in-2 e) (target-in e) (unit (c .before))))
 
 pub stake-out-spec : {M : Type 1} → statement M
 stake-out-spec =

@@ -1,6 +1,6 @@
 -- `stations::inverse` meets its contract: 15, then 11, then the point.
 use mathlib.Core.Bool.{Bool, true, _&&_, and-eq-true-iff}
-use mathlib.Core.List.{List}
+use mathlib.Core.List.{List, []}
 use mathlib.Core.Path.{_≡_, sym, ap, ap₂, _∙_}
 use borrow.Author.Needs.{needs}
 use borrow.Author.Tests.{not-true, not-false, leb-true}
@@ -13,6 +13,7 @@ use Rattle.model.specs.declared.Point.{Point}
 use Rattle.model.specs.Acceptance.{inFrame}
 use Rattle.model.specs.Stations.{isStation}
 use Rattle.model.specs.Answers.{widestOffset, inverseAt}
+use Rattle.model.proofs.Answers.{told, place-tells}
 use Rattle.elements.proofs.Widths.{held}
 use Rattle.sources.specs.Sources.{elementsLent}
 use Rattle.stations.proofs.StationRange.{station-within, held-casts}
@@ -68,7 +69,7 @@ on-line-requires c κs = search needs
 returns : tie.Need-returns
 returns c =
     let s = c .before .before .before .before in
-    sym (inverse-off-line (es s) (s .args .s) (s .args .w) (sym (tested (c .before)) ∙ not-true _ (c .if1 .taken)))
+    told (place-tells _ _ _) [] (sym (inverse-off-line (es s) (s .args .s) (s .args .w) (sym (tested (c .before)) ∙ not-true _ (c .if1 .taken))))
 
 cast-inverse-at : tie.Need-cast-inverse-at
 cast-inverse-at c =
@@ -87,14 +88,14 @@ returns-2 : tie.Need-returns-2
 returns-2 c =
     let d = c .before .before .before in
     let s = asked d in
-    sym (inverse-outside (es s) (s .args .s) (s .args .w) (on-line (d .before .before)) (framed (c .before) ∙ not-true _ (c .if2 .taken)))
+    told (place-tells _ _ _) [] (sym (inverse-outside (es s) (s .args .s) (s .args .w) (on-line (d .before .before)) (framed (c .before) ∙ not-true _ (c .if2 .taken))))
 
 returns-3 : tie.Need-returns-3
 returns-3 c =
     let e = c .before in
     let d = e .before .before .before in
     let s = asked d in
-    rw (x-is d, y-is d) (sym (inverse-inside (es s) (s .args .s) (s .args .w) (on-line (d .before .before)) (framed (e .before) ∙ not-false _ (e .if2 .left))))
+    told (place-tells _ _ _) [] (rw (x-is d, y-is d) (sym (inverse-inside (es s) (s .args .s) (s .args .w) (on-line (d .before .before)) (framed (e .before) ∙ not-false _ (e .if2 .left)))))
 
 pub inverse-spec : {M : Type 1} → statement M
 inverse-spec =

@@ -1,6 +1,6 @@
 -- `stations::place` meets its contract: 15, or what is placed at the station.
 use mathlib.Core.Bool.{true}
-use mathlib.Core.List.{List}
+use mathlib.Core.List.{List, []}
 use mathlib.Core.Path.{_≡_, sym, ap, _∙_}
 use Prim.Native.Nat.{ℕ}
 use borrow.Author.Needs.{needs}
@@ -11,6 +11,7 @@ use mir.Syntax.{w64}
 use Rattle.model.specs.declared.Element.{Element}
 use Rattle.model.specs.declared.Placed.the-variants.{At}
 use Rattle.model.specs.Stations.{isStation, positionAt, tangentAt}
+use Rattle.model.proofs.Answers.{told, station-tells}
 use Rattle.elements.specs.declared.Placement.{Placement}
 use Rattle.elements.specs.Reached.{placementOf}
 use Rattle.sources.specs.Sources.{elementsLent}
@@ -41,7 +42,8 @@ is-station-requires c κs = search needs
 returns : tie.Need-returns
 returns c =
     let s = c .before .before .before .before in
-    sym (place-refused (es s) (s .args .s) (sym (tested (c .before)) ∙ not-true _ (c .if1 .taken)))
+    told (station-tells _ _) []
+    (sym (place-refused (es s) (s .args .s) (sym (tested (c .before)) ∙ not-true _ (c .if1 .taken))))
 
 cast-placed-at : tie.Need-cast-placed-at
 cast-placed-at c =
@@ -57,15 +59,16 @@ returns-2 : tie.Need-returns-2
 returns-2 c =
     let o = c .before .before in
     let s = start o in
-    let told = c .struct-told .given in
+    let given = c .struct-told .given in
     let p = c .before .placed-at .result in
-    let x = toZ-ofZ {w = w64} {z = p .x} (record { sfits = told .0 .1 }) in
-    let y = toZ-ofZ {w = w64} {z = p .y} (record { sfits = told .1 .0 .1 }) in
-    let tx = toZ-ofZ {w = w64} {z = p .tx} (record { sfits = told .1 .1 .0 .1 }) in
-    let ty = toZ-ofZ {w = w64} {z = p .ty} (record { sfits = told .1 .1 .1 .0 .1 }) in
+    let x = toZ-ofZ {w = w64} {z = p .x} (record { sfits = given .0 .1 }) in
+    let y = toZ-ofZ {w = w64} {z = p .y} (record { sfits = given .1 .0 .1 }) in
+    let tx = toZ-ofZ {w = w64} {z = p .tx} (record { sfits = given .1 .1 .0 .1 }) in
+    let ty = toZ-ofZ {w = w64} {z = p .ty} (record { sfits = given .1 .1 .1 .0 .1 }) in
     let e : p ≡ placementOf (positionAt (es s) (natAbs (s .args .s))) (tangentAt (es s) (natAbs (s .args .s))) =
     c .before .placed-at .ensures ∙ ap (λ (k : ℕ). placementOf (positionAt (es s) k) (tangentAt (es s) k)) (ap natAbs (toZ-ofZ (s .fits .s))) in
-    rw (x, y, tx, ty) (ap (λ (q : Placement). At (q .x) (q .y) (q .tx) (q .ty)) e ∙ sym (place-done (es s) (s .args .s) (station o)))
+    told (station-tells _ _) []
+    (rw (x, y, tx, ty) (ap (λ (q : Placement). At (q .x) (q .y) (q .tx) (q .ty)) e ∙ sym (place-done (es s) (s .args .s) (station o))))
 
 pub place-spec : {M : Type 1} → statement M
 place-spec =

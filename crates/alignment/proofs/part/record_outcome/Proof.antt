@@ -6,6 +6,7 @@ use borrow.Author.Needs.{needs}
 use Rattle.model.specs.declared.Outcome.the-variants.{Done}
 use Rattle.model.specs.Refusals.{refusal, number}
 use Rattle.model.specs.Crest.{checkOf}
+use Rattle.model.proofs.Answers.{told-outcome}
 use Rattle.sources.specs.declared.Form.the-variants.{File}
 use Rattle.sources.specs.Sources.{crestIn}
 use Rattle.sources.proofs.Sound.{rules-accepted}
@@ -32,13 +33,13 @@ returns : tie.Need-returns
 returns c =
     let k = c .before .before .before in
     let a = k .before .before .before .args in
-    sym (file-refused (a .file .now) (a .r) (sym (k .check .ensures) ∙ c .before .x .given .1))
+    told-outcome _ (sym (file-refused (a .file .now) (a .r) (sym (k .check .ensures .0) ∙ c .before .x .given .1)))
 
 enum-told : tie.Need-enum-told
 enum-told c = search needs
 
 accepted : (c : tie.After-enum-told) → checkOf (crestIn File (c .before .before .before .before .before .args .file .now) []) ≡ Done
-accepted c = sym (c .before .before .check .ensures) ∙ c .enum-told .given .1
+accepted c = sym (c .before .before .check .ensures .0) ∙ c .enum-told .given .1
 
 count-in-requires : tie.Need-count-in-requires
 count-in-requires c κs = rules-accepted File _ _ (accepted c) .readable
@@ -47,7 +48,7 @@ returns-2 : tie.Need-returns-2
 returns-2 c =
     let n = c .before in
     let a = n .before .before .before .before .before .before .args in
-    sym (number-done (a .file .now) (a .r) (accepted (n .before)) (omega (arith, c .if1 .taken, n .count-in .ensures)))
+    told-outcome _ (sym (number-done (a .file .now) (a .r) (accepted (n .before)) (omega (arith, c .if1 .taken, n .count-in .ensures))))
 
 refused-requires : tie.Need-refused-requires
 refused-requires c κs = search needs
@@ -57,7 +58,7 @@ unfolding refusal number
 returns-3 c =
     let n = c .before .before in
     let a = n .before .before .before .before .before .before .args in
-    c .refused .ensures ∙ sym (number-refused (a .file .now) (a .r) (accepted (n .before)) (omega (arith, c .before .if1 .left, n .count-in .ensures)))
+    told-outcome _ (c .refused .ensures .0 ∙ sym (number-refused (a .file .now) (a .r) (accepted (n .before)) (omega (arith, c .before .if1 .left, n .count-in .ensures))))
 
 pub record-outcome-spec : {M : Type 1} → statement M
 record-outcome-spec =

@@ -31,7 +31,7 @@ enum-told-2 : tie.Need-enum-told-2
 enum-told-2 c = search needs
 
 told : (c : tie.After-enum-told2) → let a = c .before .before .before .before .before .args in readerOutcome (a .file .now) (a .r) ≡ Done
-told c = sym (c .before .before .record-outcome .ensures) ∙ c .enum-told2 .given .1
+told c = sym (c .before .before .record-outcome .ensures .0) ∙ c .enum-told2 .given .1
 
 record-in-requires : tie.Need-record-in-requires
 record-in-requires c κs = reader-done _ _ (told c)
@@ -40,7 +40,7 @@ returns : tie.Need-returns
 unfolding readerPart
 returns c =
     let a = c .before .before .before .before .before .args in
-    let o = sym (c .before .before .record-outcome .ensures) ∙ c .enum-told .given .1 in
+    let o = sym (c .before .before .record-outcome .ensures .0) ∙ c .enum-told .given .1 in
     let l = lent (a .file) 0 0 (span-refused (a .file .now) (a .r) o) refl refl refl in
     (l .content, l)
 

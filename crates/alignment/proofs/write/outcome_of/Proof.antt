@@ -31,13 +31,13 @@ returns : tie.Need-returns
 returns c =
     let k = c .before .before .before in
     let a = k .before .before .before .args in
-    sym (records-refused (a .records .now) (a .room) (sym (k .check .ensures) ∙ c .before .x .given .1))
+    sym (records-refused (a .records .now) (a .room) (sym (k .check .ensures .0) ∙ c .before .x .given .1))
 
 enum-told : tie.Need-enum-told
 enum-told c = search needs
 
 accepted : (c : tie.After-enum-told) → checkOf (crestIn Row (c .before .before .before .before .before .args .records .now) []) ≡ Done
-accepted c = sym (c .before .before .check .ensures) ∙ c .enum-told .given .1
+accepted c = sym (c .before .before .check .ensures .0) ∙ c .enum-told .given .1
 
 blocks-needed-requires : tie.Need-blocks-needed-requires
 blocks-needed-requires c κs = search needs
@@ -53,7 +53,7 @@ unfolding refusal number
 returns-2 c =
     let n = c .before .before in
     let a = n .before .before .before .before .before .before .args in
-    c .refused .ensures ∙ sym (room-refused (a .records .now) (a .room) (accepted (n .before)) (omega (arith, c .before .if1 .taken, n .blocks-needed .ensures)))
+    c .refused .ensures .0 ∙ sym (room-refused (a .records .now) (a .room) (accepted (n .before)) (omega (arith, c .before .if1 .taken, n .blocks-needed .ensures)))
 
 returns-3 : tie.Need-returns-3
 returns-3 c =

@@ -4,6 +4,7 @@ use borrow.Author.Needs.{needs}
 use lib.ListN.{length}
 use Rattle.model.specs.declared.Outcome.the-variants.{Done}
 use Rattle.model.specs.Writer.{writerOutcome}
+use Rattle.model.proofs.Answers.{told-outcome}
 use Rattle.alignment.proofs.WriteOrders.{done-fits, room-done, room-kept}
 use Rattle.alignment.proofs.write.write.Statement.{statement}
 use Rattle.alignment.proofs.write.write.Tie as tie
@@ -28,7 +29,8 @@ returns c =
     let o = c .before .before .before in
     let a = o .before .before .before .args in
     let e = sym (o .outcome-of .ensures) ∙ c .before .x .given .1 in
-    (sym e, room-kept (a .records .now) (a .room .now) e)
+    let s = told-outcome _ (sym e) in
+    (s .0, (room-kept (a .records .now) (a .room .now) e, s .1))
 
 same-length : tie.Need-same-length
 same-length c = search needs
@@ -38,7 +40,8 @@ returns-2 c =
     let w = c .before .before in
     let d = w .before .before in
     let a = d .before .before .before .before .before .args in
-    (sym (told d), w .write-blocks .ensures ∙ room-done (a .records .now) (a .room .now) (told d))
+    let s = told-outcome _ (sym (told d)) in
+    (s .0, (w .write-blocks .ensures ∙ room-done (a .records .now) (a .room .now) (told d), s .1))
 
 pub write-spec : {M : Type 1} → statement M
 write-spec =

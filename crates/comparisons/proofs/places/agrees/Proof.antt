@@ -23,7 +23,7 @@ element-requires c κs = search needs
 
 prepare-requires : tie.Need-prepare-requires
 prepare-requires c κs =
-    subst Accepted (sym (c .element .ensures)) (record-accepted _ 0 (sym (c .before .before .before .check-record .ensures) ∙ c .before .enum-told2 .given .1))
+    subst Accepted (sym (c .element .ensures)) (record-accepted _ 0 (sym (c .before .before .before .check-record .ensures .0) ∙ c .before .enum-told2 .given .1))
 
 agrees-on-requires : tie.Need-agrees-on-requires
 agrees-on-requires c κs = search needs

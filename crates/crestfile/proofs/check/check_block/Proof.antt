@@ -41,7 +41,7 @@ returns-2 : tie.Need-returns-2
 unfolding blockRules refusal number
 returns-2 c =
     let t = c .before .before in
-    rw (t .before .enum-told .given .1) (c .refused .ensures ∙ sym (one-refused checksum _ (sym (t .sums-agree .ensures) ∙ c .before .if1 .left)))
+    rw (t .before .enum-told .given .1) (c .refused .ensures .0 ∙ sym (one-refused checksum _ (sym (t .sums-agree .ensures) ∙ c .before .if1 .left)))
 
 returns-3 : tie.Need-returns-3
 unfolding blockRules
@@ -53,7 +53,7 @@ returns-4 : tie.Need-returns-4
 unfolding blockRules refusal number
 returns-4 c =
     let t = c .before .before in
-    rw (t .before .enum-told2 .given .1) (c .refused2 .ensures ∙ sym (one-refused blockField _ (sym (t .fields-fit .ensures) ∙ c .before .if2 .left)))
+    rw (t .before .enum-told2 .given .1) (c .refused2 .ensures .0 ∙ sym (one-refused blockField _ (sym (t .fields-fit .ensures) ∙ c .before .if2 .left)))
 
 pub check-block-spec : {M : Type 1} → statement M
 check-block-spec =

@@ -10,6 +10,7 @@ use Rattle.model.specs.Records.{blockCount}
 use Rattle.model.specs.Refusals.{Rule, rule₀, verdict, forEach, byteCount}
 use Rattle.model.specs.Acceptance.{lengthFits, sumRules, fieldRules, blocksRules}
 use Rattle.model.proofs.Verdict.{done→all, verdict-after, refused-before}
+use Rattle.model.proofs.Answers.{told-outcome}
 use Rattle.crestfile.specs.BlockChecks.{blockRules, eachBlock}
 use Rattle.crestfile.proofs.ForEach.{holds-one}
 use Rattle.crestfile.proofs.Crest.{fits→sized}
@@ -41,7 +42,7 @@ unfolding blocksRules
 returns c =
     let l = c .before .before .before in
     let file = l .before .before .args .file .now in
-    sym (refused-before (runLengthRules file) _ (sym (l .check-length .ensures) ∙ c .before .length .given .1))
+    told-outcome _ (sym (refused-before (runLengthRules file) _ (sym (l .check-length .ensures) ∙ c .before .length .given .1)))
 
 enum-told : tie.Need-enum-told
 enum-told c = search needs
@@ -57,7 +58,7 @@ unfolding blocksRules sumRules eachBlock blockRules
 returns-2 c =
     let s = c .before .before .before in
     let file = s .before .before .before .before .before .args .file .now in
-    sym (verdict-after (runLengthRules file) _ (passed (s .before)) ∙ refused-before (sums file) _ (sym (s .check-each .ensures) ∙ c .before .sums .given .1))
+    told-outcome _ (sym (verdict-after (runLengthRules file) _ (passed (s .before)) ∙ refused-before (sums file) _ (sym (s .check-each .ensures) ∙ c .before .sums .given .1)))
 
 enum-told-2 : tie.Need-enum-told-2
 enum-told-2 c = search needs
@@ -70,8 +71,8 @@ unfolding blocksRules sumRules fieldRules eachBlock blockRules
 returns-3 c =
     let s = c .before .before .before in
     let file = s .before .before .before .before .before .args .file .now in
-    c .check-each2 .ensures
-    ∙ sym (verdict-after (runLengthRules file) _ (passed (s .before)) ∙ verdict-after (sums file) _ (sym (s .check-each .ensures) ∙ c .before .enum-told2 .given .1))
+    told-outcome _ (c .check-each2 .ensures
+    ∙ sym (verdict-after (runLengthRules file) _ (passed (s .before)) ∙ verdict-after (sums file) _ (sym (s .check-each .ensures) ∙ c .before .enum-told2 .given .1)))
 
 pub check-blocks-spec : {M : Type 1} → statement M
 check-blocks-spec =

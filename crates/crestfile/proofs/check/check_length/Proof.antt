@@ -33,7 +33,7 @@ returns c = sym (one-done byteCount 0 (fits _ (c .match .keys1)))
 
 returns-2 : tie.Need-returns-2
 unfolding refusal number
-returns-2 c = c .refused .ensures ∙ sym (one-refused byteCount 0 (does-not-fit _ (c .before .match .rest .1)))
+returns-2 c = c .refused .ensures .0 ∙ sym (one-refused byteCount 0 (does-not-fit _ (c .before .match .rest .1)))
 
 pub check-length-spec : {M : Type 1} → statement M
 check-length-spec = tie.close (tie.spec refused-requires returns returns-2)

@@ -1,5 +1,5 @@
-// Where things lie in lent bytes: document 01, "The crest file", and the run and the move of "Readings and the run". The names are those
-// of specs/Records.antt, specs/Run.antt and specs/Calls.antt, where these give a number a name.
+// Where things lie in bytes: document 01, "The crest file", the run and the move of "Readings and the run", and a reading of the program.
+// The names are those of specs/Records.antt, specs/Run.antt, specs/Calls.antt and specs/Program.antt, where these give a number a name.
 
 // "Blocks of 512 bytes, little-endian, 1 to 4 of them."
 pub const BLOCK_SIZE: usize = 512;
@@ -81,3 +81,10 @@ pub const THREE_AT: usize = 20;
 
 // "stake-out writes forward and left, i32, to 8 lent bytes"
 pub const MOVE_SIZE: usize = 8;
+
+// "16-byte plane readings (x, y as little-endian f64; .."
+pub const READING_SIZE: usize = 16;
+
+pub const READING_X_AT: usize = 0;
+
+pub const READING_Y_AT: usize = 8;

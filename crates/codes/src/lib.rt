@@ -4,6 +4,7 @@ use model::Outcome;
 use model::Point;
 use model::ReadingAnswer;
 use model::Refusal;
+use model::layout;
 use model::refusals;
 ghost use mathlib.Core.Path.{_≡_};
 ghost use Prim.Native.Nat.{_+_, _≤_};
@@ -60,7 +61,7 @@ pub fn point(x: i32, y: i32) -> Point
     }
 }
 
-// Two fields of four bytes, one after the other.
+// Two i32, one after the other at any place: 4 is the bytes of an i32, as in `fields::put_i32`.
 pub fn put_two(room: &mut [u8], at: usize, a: i64, b: i64)
     requires { ⌜ at + 8 ≤ length (now room) ⌝ }
     requires { ⌜ SFits w32 a ⌝ }
@@ -80,7 +81,7 @@ pub fn answer_move(answer: Move, room: &mut [u8]) -> u32
 {
     match answer {
         Move::By { forward, left } => {
-            put_two(room, 0, forward, left);
+            put_two(room, layout::FORWARD_AT, forward, left);
             0
         }
         Move::Refused(why) => code_of(why),

@@ -82,6 +82,8 @@ pub const THREE_AT: usize = 20;
 // "stake-out writes forward and left, i32, to 8 lent bytes"
 pub const MOVE_SIZE: usize = 8;
 
+pub const FORWARD_AT: usize = 0;
+
 // "16-byte plane readings (x, y as little-endian f64; .."
 pub const READING_SIZE: usize = 16;
 

@@ -8,7 +8,7 @@ use denote.Ref.{now}
 use Rattle.model.specs.declared.Move.{Move}
 use Rattle.model.specs.Records.{putAll}
 use Rattle.model.specs.Answers.{code, paperOfMove}
-use Rattle.model.specs.Calls.{moveBytes}
+use Rattle.model.specs.Calls.{forwardAt, moveBytes}
 use Rattle.readings.proofs.Narrow.{narrow-fits}
 use Rattle.codes.specs.Codes.{Movable, putTwo}
 use borrow.Author.Needs.{needs}
@@ -49,7 +49,7 @@ returns c =
     let left = k .answer .given .0 .1 .0 in (
       sym (ap (λ (m : Move). code (paperOfMove m)) e),
       p .put-two .ensures
-          ∙ ap₂ (λ (f l : ℤ). putTwo room 0 f l) (toZ-ofZ w64 forward (record { sfits = told .0 .1 })) (toZ-ofZ w64 left (record { sfits = told .1 .0 .1 }))
+          ∙ ap₂ (λ (f l : ℤ). putTwo room forwardAt f l) (toZ-ofZ w64 forward (record { sfits = told .0 .1 })) (toZ-ofZ w64 left (record { sfits = told .1 .0 .1 }))
           ∙ sym (ap (λ (m : Move). moveBytes m room) e),
     )
 

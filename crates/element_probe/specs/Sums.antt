@@ -10,6 +10,7 @@ use Rattle.model.specs.declared.Element.{Element}
 use Rattle.model.specs.declared.Point.{Point}
 use Rattle.model.specs.declared.Outcome.{Outcome}
 use Rattle.model.specs.declared.Outcome.the-variants.{Done, Refused}
+use Rattle.model.specs.Records.{recordSize}
 use Rattle.model.specs.Refusals.{rule₀, verdict, wrongRoom}
 use Rattle.model.specs.Acceptance.{elementOf, recordRules}
 use Rattle.model.specs.Series.{positionOn}
@@ -36,7 +37,7 @@ sumIf (Refused why) bytes n = pos 0
 -- of a record's bytes: n stations from 0 on, and 0 where the bytes are no accepted record
 unfoldable pub sumOver : List ℕ → ℕ → ℤ
 unfolding sumIf verdict recordRules
-sumOver bytes n = sumIf (verdict (rule₀ wrongRoom (eqb (length bytes) 32) ∷ recordRules bytes 0)) bytes n
+sumOver bytes n = sumIf (verdict (rule₀ wrongRoom (eqb (length bytes) recordSize) ∷ recordRules bytes 0)) bytes n
 
 -- the whole square roots of k numbers from n on
 unfoldable pub rootsFrom : ℕ → ℕ → ℕ

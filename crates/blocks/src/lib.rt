@@ -6,7 +6,7 @@ ghost use mathlib.Core.Path.{_≡_};
 ghost use Prim.Native.Nat.{_+_, _≤_, _<_};
 ghost use lib.ListN.{length, replicate};
 ghost use denote.Ref.{ptr};
-ghost use Rattle.model.specs.Records.{part, put, u16Bytes, sumA, sumB};
+ghost use Rattle.model.specs.Records.{blockSize, recordsEnd, sumsAt, part, put, u16Bytes, sumA, sumB};
 ghost use Rattle.model.specs.Acceptance.{sumsAgree, useFits, fieldsFit};
 ghost use Rattle.model.specs.Writer.{blockBody, block};
 
@@ -35,7 +35,7 @@ fn wide(x: u8) -> usize
 
 // The sums of bytes 0 to 507: A adds them up, and B counts byte i 508 - i times.
 fn sums_of(block: &[u8]) -> Sums
-    requires { ⌜ 508 ≤ length (now block) ⌝ }
+    requires { ⌜ sumsAt ≤ length (now block) ⌝ }
     ensures { λ r. ⌜ (r .a ≡ sumA (now (block .entry))) × (r .b ≡ sumB (now (block .entry))) ⌝ }
 {
     let mut a: usize = 0;
@@ -55,7 +55,7 @@ fn sums_of(block: &[u8]) -> Sums
 
 // Whether both stored sums are those of the bytes before them.
 pub fn sums_agree(block: &[u8]) -> bool
-    requires { ⌜ length (now block) ≡ 512 ⌝ }
+    requires { ⌜ length (now block) ≡ blockSize ⌝ }
     ensures { λ r. ⌜ r ≡ sumsAgree (now (block .entry)) ⌝ }
 {
     let s = sums_of(block);
@@ -78,7 +78,7 @@ fn use_fits(n: usize, b: usize, used: usize) -> bool
 
 // Whether block b of n has the fields that it must have, and zeros where nothing is in use.
 pub fn fields_fit(n: usize, b: usize, block: &[u8]) -> bool
-    requires { ⌜ length (now block) ≡ 512 ⌝ }
+    requires { ⌜ length (now block) ≡ blockSize ⌝ }
     requires { ⌜ b < n ⌝ }
     ensures { λ r. ⌜ r ≡ fieldsFit n b (now (block .entry)) ⌝ }
 {
@@ -125,8 +125,8 @@ fn clear_at(room: &mut [u8], at: usize, n: usize)
 
 // Bytes 0 to 507 of block b: its records, zeros up to 480, the block's fields, zeros.
 fn write_body(room: &mut [u8], b: usize, records: &[u8])
-    requires { ⌜ length (now room) ≡ 512 ⌝ }
-    requires { ⌜ length (now records) ≤ 480 ⌝ }
+    requires { ⌜ length (now room) ≡ blockSize ⌝ }
+    requires { ⌜ length (now records) ≤ recordsEnd ⌝ }
     requires { ⌜ b < 65536 ⌝ }
     ensures { λ _. ⌜ now (room .exit) ≡ put (now (room .entry)) 0 (blockBody b (now (records .entry))) ⌝ }
 {
@@ -141,8 +141,8 @@ fn write_body(room: &mut [u8], b: usize, records: &[u8])
 
 // The two sums of bytes 0 to 507, after them.
 fn write_sums(room: &mut [u8])
-    requires { ⌜ length (now room) ≡ 512 ⌝ }
-    ensures { λ _. ⌜ now (room .exit) ≡ put (now (room .entry)) 508 (u16Bytes (sumA (now (room .entry))) ++ u16Bytes (sumB (now (room .entry)))) ⌝ }
+    requires { ⌜ length (now room) ≡ blockSize ⌝ }
+    ensures { λ _. ⌜ now (room .exit) ≡ put (now (room .entry)) sumsAt (u16Bytes (sumA (now (room .entry))) ++ u16Bytes (sumB (now (room .entry)))) ⌝ }
 {
     let s = sums_of(room);
     fields::put_u16(room, layout::SUMS_AT, s.a);
@@ -151,8 +151,8 @@ fn write_sums(room: &mut [u8])
 
 // Block b of these records, 15 at most.
 pub fn write_block(room: &mut [u8], b: usize, records: &[u8])
-    requires { ⌜ length (now room) ≡ 512 ⌝ }
-    requires { ⌜ length (now records) ≤ 480 ⌝ }
+    requires { ⌜ length (now room) ≡ blockSize ⌝ }
+    requires { ⌜ length (now records) ≤ recordsEnd ⌝ }
     requires { ⌜ b < 65536 ⌝ }
     ensures { λ _. ⌜ now (room .exit) ≡ block b (now (records .entry)) ⌝ }
 {

@@ -14,9 +14,9 @@ use model::refusals;
 use records::refused;
 ghost use mathlib.Core.List.{[], _∷_};
 ghost use mathlib.Core.Path.{_≡_};
-ghost use Prim.Native.Nat.{_≤_, _<_};
+ghost use Prim.Native.Nat.{_*_, _≤_, _<_};
 ghost use lib.ListN.{length};
-ghost use Rattle.model.specs.Records.{recordStart, recordBytes, countOf};
+ghost use Rattle.model.specs.Records.{blockSize, mostRecords, recordStart, recordBytes, countOf};
 ghost use Rattle.model.specs.Refusals.{rule₀, verdict, byteCount};
 ghost use Rattle.model.specs.Acceptance.{lengthFits, blocksRules};
 ghost use Rattle.crestfile.specs.BlockChecks.{blockRules, eachBlock};
@@ -40,7 +40,7 @@ enum BlockCheck {
 
 // A check of block b of n.
 fn check_block(what: BlockCheck, n: usize, b: usize, block: &[u8]) -> Outcome
-    requires { ⌜ (length (now block) ≡ 512) × (b < n) × (n ≤ 4) ⌝ }
+    requires { ⌜ (length (now block) ≡ blockSize) × (b < n) × (n ≤ 4) ⌝ }
     ensures { λ o. ⌜ o ≡ verdict (blockRules what n b (now (block .entry))) ⌝ }
 {
     match what {
@@ -63,7 +63,7 @@ fn check_block(what: BlockCheck, n: usize, b: usize, block: &[u8]) -> Outcome
 
 // A check of every block, from the first.
 fn check_each(what: BlockCheck, file: &[u8]) -> Outcome
-    requires { ⌜ length (now file) ≤ 2048 ⌝ }
+    requires { ⌜ length (now file) ≤ 4 * blockSize ⌝ }
     ensures { λ o. ⌜ o ≡ verdict (eachBlock what (now (file .entry))) ⌝ }
 {
     let n = file.len() / BLOCK_SIZE;
@@ -105,7 +105,7 @@ pub fn record_count(file: &[u8]) -> usize
 
 // Where record r, counted from 0 over all blocks, starts in a file.
 pub fn record_start(r: usize) -> usize
-    requires { ⌜ r < 60 ⌝ }
+    requires { ⌜ r < mostRecords ⌝ }
     ensures { λ n. ⌜ n ≡ recordStart r ⌝ }
 {
     BLOCK_SIZE * (r / PER_BLOCK) + RECORD_SIZE * (r % PER_BLOCK)

@@ -9,7 +9,7 @@ ghost use mathlib.Core.Bool.{true};
 ghost use mathlib.Core.Path.{_≡_};
 ghost use Prim.Native.Nat.{_+_, _-_, _*_, _/_, _≤_, _<_, min};
 ghost use lib.ListN.{length};
-ghost use Rattle.model.specs.Records.{recordSize, perBlock, put};
+ghost use Rattle.model.specs.Records.{blockSize, recordSize, perBlock, recordsEnd, put};
 ghost use Rattle.model.specs.Writer.{blocksNeeded, fileOf, countFits};
 
 // 17: whether so many bytes are 1 to 60 records.
@@ -38,8 +38,8 @@ pub fn blocks_needed(len: usize) -> usize
 
 // Where a block's records end that start at `from`, of `len` bytes.
 fn block_end(from: usize, len: usize) -> usize
-    requires { ⌜ from + 480 < 65536 ⌝ }
-    ensures { λ r. ⌜ r ≡ min (from + 480) len ⌝ }
+    requires { ⌜ from + recordsEnd < 65536 ⌝ }
+    ensures { λ r. ⌜ r ≡ min (from + recordsEnd) len ⌝ }
 {
     if from + RECORDS_END < len {
         from + RECORDS_END
@@ -51,7 +51,7 @@ fn block_end(from: usize, len: usize) -> usize
 // The file of 1 to 60 records, at the front of the room; the rest of the room stays as it came.
 pub fn write_blocks(records: &[u8], room: &mut [u8])
     requires { ⌜ countFits (length (now records)) ≡ true ⌝ }
-    requires { ⌜ 512 * blocksNeeded (now records) ≤ length (now room) ⌝ }
+    requires { ⌜ blockSize * blocksNeeded (now records) ≤ length (now room) ⌝ }
     ensures { λ _. ⌜ now (room .exit) ≡ put (now (room .entry)) 0 (fileOf (now (records .entry))) ⌝ }
 {
     let len = records.len();

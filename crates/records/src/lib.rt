@@ -15,7 +15,7 @@ ghost use mathlib.Core.Bool.{_&&_};
 ghost use lib.Dec.{leb};
 ghost use lib.ListN.{length};
 ghost use Rattle.model.specs.Kinds.{decide};
-ghost use Rattle.model.specs.Records.{i32At, allZero};
+ghost use Rattle.model.specs.Records.{recordSize, i32At, allZero};
 ghost use Rattle.model.specs.Refusals.{verdict};
 ghost use Rattle.model.specs.Acceptance.{kindIn, elementOf, reservedZero, inFrame, radiusGood, rangesGood, isUnit, recordRules};
 ghost use Rattle.model.specs.Answers.{paperIf, paperOfOutcome};
@@ -124,7 +124,7 @@ fn wide_at(rec: &[u8], at: usize) -> i64
 
 // The element that a record's 32 bytes give.
 pub fn element(rec: &[u8]) -> Element
-    requires { ⌜ length (now rec) ≡ 32 ⌝ }
+    requires { ⌜ length (now rec) ≡ recordSize ⌝ }
     ensures { λ r. ⌜ r ≡ elementOf (now (rec .entry)) ⌝ }
 {
     Element {
@@ -140,7 +140,7 @@ pub fn element(rec: &[u8]) -> Element
 
 // Whether the bytes of a record that must be zero are.
 fn reserved_zero(rec: &[u8]) -> bool
-    requires { ⌜ length (now rec) ≡ 32 ⌝ }
+    requires { ⌜ length (now rec) ≡ recordSize ⌝ }
     ensures { λ r. ⌜ r ≡ reservedZero (now (rec .entry)) ⌝ }
 {
     if !all_zero(&rec[layout::FIRST_ZEROS_AT..layout::RECORD_LENGTH_AT]) {
@@ -159,7 +159,7 @@ pub fn refused(number: u32, place: u32) -> Outcome
 
 // The refusals of record r by its own 32 bytes: kind, reserved bytes, ranges, direction.
 pub fn check_record(rec: &[u8], r: u32) -> Outcome
-    requires { ⌜ length (now rec) ≡ 32 ⌝ }
+    requires { ⌜ length (now rec) ≡ recordSize ⌝ }
     ensures { λ o. ⌜ o ≡ verdict (recordRules (now (rec .entry)) r) ⌝ }
     ensures paper { λ o. ⌜ paperOfOutcome o ≡ paperIf (verdict (recordRules (now (rec .entry)) r)) [] ⌝ }
 {

@@ -3,11 +3,11 @@ use model::Run;
 use model::layout;
 ghost use mathlib.Core.Path.{_≡_};
 ghost use lib.ListN.{length};
-ghost use Rattle.model.specs.Run.{runAt, runBytes};
+ghost use Rattle.model.specs.Run.{runSize, runAt, runBytes};
 
 // Bytes 10 and 11 are not read.
 pub fn run_at(bytes: &[u8]) -> Run
-    requires { ⌜ length (now bytes) ≡ 24 ⌝ }
+    requires { ⌜ length (now bytes) ≡ runSize ⌝ }
     ensures { λ r. ⌜ r ≡ runAt (now (bytes .entry)) ⌝ }
 {
     let answered = fields::u16_at(bytes, layout::ANSWERED_AT);
@@ -32,7 +32,7 @@ pub fn run_at(bytes: &[u8]) -> Run
 
 // Bytes 10 and 11 are not changed.
 pub fn put_run(bytes: &mut [u8], run: Run)
-    requires { ⌜ length (now bytes) ≡ 24 ⌝ }
+    requires { ⌜ length (now bytes) ≡ runSize ⌝ }
     ensures { λ _. ⌜ now (bytes .exit) ≡ runBytes run (now (bytes .entry)) ⌝ }
 {
     fields::put_u16(bytes, layout::ANSWERED_AT, run.answered);

@@ -15,7 +15,7 @@ ghost use mathlib.Core.Path.{_≡_};
 ghost use Prim.Native.Nat.{_+_, _<_};
 ghost use lib.ListN.{length};
 ghost use denote.Ref.{ptr};
-ghost use Rattle.model.specs.Records.{recordOf};
+ghost use Rattle.model.specs.Records.{recordSize, mostRecords, recordOf};
 ghost use Rattle.model.specs.Refusals.{verdict};
 ghost use Rattle.model.specs.Acceptance.{elementAt, eachRecord, recordRules};
 ghost use Rattle.sources.specs.Sources.{recordsIn, countIn, startIn, layoutRules, Readable};
@@ -64,7 +64,7 @@ pub fn count_in(crest: &[u8], amendment: &[u8], form: Form) -> usize
 
 // Where record r starts.
 fn start_in(form: Form, r: usize) -> usize
-    requires { ⌜ r < 60 ⌝ }
+    requires { ⌜ r < mostRecords ⌝ }
     ensures { λ n. ⌜ n ≡ startIn form r ⌝ }
 {
     match form {
@@ -78,7 +78,7 @@ pub fn record_in<'a>(crest: &'a [u8], amendment: &'a [u8], form: Form, r: usize)
     requires { ⌜ Readable form (now crest) (now amendment) ⌝ }
     requires { ⌜ r < countIn form (now crest) (now amendment) ⌝ }
     ensures { λ p. ⌜ now p ≡ recordOf (recordsIn form (now (crest .entry)) (now (amendment .entry))) r ⌝ }
-    ensures size { λ p. ⌜ length (now p) ≡ 32 ⌝ }
+    ensures size { λ p. ⌜ length (now p) ≡ recordSize ⌝ }
     ensures place { λ p. ⌜ ptr p ≡ (ptr (crest .entry) .0, startIn form r + ptr (crest .entry) .1) ⌝ }
 {
     part_at(crest, start_in(form, r), RECORD_SIZE)

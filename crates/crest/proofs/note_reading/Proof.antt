@@ -73,7 +73,7 @@ count-answer-requires c κs =
 told : (c : tie.After-count-answer) → c .count-answer .result ≡ record { answer = came (c .before); run = counted (shownOf (came (c .before))) (state (c .before)) }
 told c =
     let k = c .before in
-    c .count-answer .ensures
+    c .count-answer .ensures .0
     ∙ ap₂ (λ (a : ReadingAnswer) (r : Run). noted a r) (k .answer .ensures .0) (full k .before .run-at .ensures)
     ∙ noted-counted (came k) (state k) (has-room k)
 

@@ -33,9 +33,14 @@ unfolding layoutRules recordsIn startIn
 record-lies File crest amendment r e h = let w = record-within crest r e h in (w .1, w .0)
 record-lies Row crest amendment r e h = (omega arith, refl)
 
--- so a part at its start is the record, and has 32 bytes
-pub part-is-record : (form : Form) (crest amendment : List ℕ) (r at : ℕ) {p : List ℕ} → Readable form crest amendment → r < countIn form crest amendment → at ≡ startIn form r → p ≡ part crest at 32 →
-    (p ≡ recordOf (recordsIn form crest amendment) r) × (length p ≡ 32)
-part-is-record form crest amendment r at e h s q =
-    let w = record-lies form crest amendment r e h in
-    (q ∙ ap (λ (k : ℕ). part crest k 32) s ∙ w .1, ap length (q ∙ ap (λ (k : ℕ). part crest k 32) s) ∙ length-part crest (startIn form r) 32 (w .0))
+-- so what the way to record r asks holds, and a part at its start is the record and has 32 bytes
+module _ (form : Form) (crest amendment : List ℕ) (r : ℕ) (asked : Readable form crest amendment × (r < countIn form crest amendment)) where
+  pub record-below : r < 60
+  record-below = omega (arith, records-counted form crest amendment (asked .0))
+
+  module _ {at : ℕ} (starts : at ≡ startIn form r) where
+    pub part-fits : at + 32 ≤ length crest
+    part-fits = rw starts (record-lies form crest amendment r (asked .0) (asked .1) .0)
+
+    pub part-is-record : {p : List ℕ} → p ≡ part crest at 32 → (p ≡ recordOf (recordsIn form crest amendment) r) × (length p ≡ 32)
+    part-is-record q = ((rw starts at q) ∙ record-lies form crest amendment r (asked .0) (asked .1) .1, ap length q ∙ length-part crest at 32 part-fits)

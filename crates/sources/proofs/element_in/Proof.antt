@@ -1,37 +1,24 @@
 -- `sources::element_in` meets its contract.
-use mathlib.Core.Path.{_≡_, ap, _∙_}
-use native.Mathlib.Omega.{arith}
-use lib.ListN.{length}
-use Rattle.model.specs.Records.{recordOf}
+use mathlib.Core.Path.{ap, _∙_}
 use Rattle.model.specs.Acceptance.{elementOf, elementAt}
-use Rattle.sources.specs.Sources.{recordsIn}
-use Rattle.sources.proofs.Records.{records-counted, record-lies, part-is-record}
+use Rattle.sources.proofs.Records.{record-below, part-fits, part-is-record}
 use Rattle.sources.proofs.element_in.Statement.{statement}
 use Rattle.sources.proofs.element_in.Tie as tie
 
 start-in-requires : tie.Need-start-in-requires
-start-in-requires c κs =
-    let s = c .before .before in
-    omega (arith, s .pre .1, records-counted (s .args .form) (s .args .crest .now) (s .args .amendment .now) (s .pre .0))
+start-in-requires c κs = record-below _ _ _ _ (c .before .before .pre)
 
 part-at-requires : tie.Need-part-at-requires
-part-at-requires c κs =
-    let s = c .before .before .before in
-    rw (c .start-in .ensures) (record-lies (s .args .form) (s .args .crest .now) (s .args .amendment .now) (s .args .r) (s .pre .0) (s .pre .1) .0)
-
--- the part is the record
-here : (c : tie.After-part-at) → let s = c .before .before .before .before in
-    (c .part-at .result .now ≡ recordOf (recordsIn (s .args .form) (s .args .crest .now) (s .args .amendment .now)) (s .args .r)) × (length (c .part-at .result .now) ≡ 32)
-here c =
-    let s = c .before .before .before .before in
-    part-is-record (s .args .form) (s .args .crest .now) (s .args .amendment .now) (s .args .r) _ (s .pre .0) (s .pre .1) (c .before .start-in .ensures) (c .part-at .ensures .0)
+part-at-requires c κs = part-fits _ _ _ _ (c .before .before .before .pre) (c .start-in .ensures)
 
 element-requires : tie.Need-element-requires
-element-requires c κs = here c .1
+element-requires c κs = part-is-record _ _ _ _ (c .before .before .before .before .pre) (c .before .start-in .ensures) (c .part-at .ensures .0) .1
 
 returns : tie.Need-returns
 unfolding elementAt
-returns c = c .element .ensures ∙ ap elementOf (here (c .before) .0)
+returns c =
+    let p = c .before in
+    c .element .ensures ∙ ap elementOf (part-is-record _ _ _ _ (p .before .before .before .before .pre) (p .before .start-in .ensures) (p .part-at .ensures .0) .0)
 
 pub element-in-spec : {M : Type 1} → statement M
 element-in-spec = tie.close (tie.spec start-in-requires part-at-requires element-requires returns)

@@ -5,7 +5,7 @@ use mathlib.Core.Bool.{Bool, true, false, not, cond}
 use Prim.Native.Nat.{ℕ, zero, suc, pred, _+_, _*_, _-_, _<_, _≤_, min, zero-le}
 use native.Mathlib.Omega.{arith}
 use native.Mathlib.Decide.{decLe}
-use mathlib.Core.Logic.{_⊎_, inl, inr}
+use mathlib.Core.Logic.{_⊎_, inl, inr, _↔_}
 use native.Mathlib.Nat.{mul-zero}
 use lib.Dec.{T, ltb, leb→le, le→leb, ltb→lt, lt→ltb, nltb→le}
 use lib.IntN.{ℤ, pos, negsuc, negℤ, natAbs, subℕ, _+ℤ_, _-ℤ_, _*ℤ_}
@@ -22,29 +22,17 @@ negPart (negsuc k) = suc k
 
 -- ---- from ℤ to ℕ and back
 
-le→′ : (a b : ℤ) → T (leZ a b) → posPart a + negPart b ≤ posPart b + negPart a
-le→′ (pos a) (pos b) h = omega (arith, leb→le)
-le→′ (pos a) (negsuc b) h = absurd h
-le→′ (negsuc a) (pos b) h = omega arith
-le→′ (negsuc a) (negsuc b) h = omega (arith, leb→le)
+le↔ : (a b : ℤ) → T (leZ a b) ↔ posPart a + negPart b ≤ posPart b + negPart a
+le↔ (pos a) (pos b) = (λ h. omega (arith, leb→le), λ h. omega (arith, le→leb))
+le↔ (pos a) (negsuc b) = (absurd, λ h. omega arith)
+le↔ (negsuc a) (pos b) = (λ h. omega arith, λ h. tt)
+le↔ (negsuc a) (negsuc b) = (λ h. omega (arith, leb→le), λ h. omega (arith, le→leb))
 
-le←′ : (a b : ℤ) → posPart a + negPart b ≤ posPart b + negPart a → T (leZ a b)
-le←′ (pos a) (pos b) h = omega (arith, le→leb)
-le←′ (pos a) (negsuc b) h = omega arith
-le←′ (negsuc a) (pos b) h = tt
-le←′ (negsuc a) (negsuc b) h = omega (arith, le→leb)
-
-lt→′ : (a b : ℤ) → T (ltZ a b) → posPart a + negPart b < posPart b + negPart a
-lt→′ (pos a) (pos b) h = omega (arith, ltb→lt)
-lt→′ (pos a) (negsuc b) h = absurd h
-lt→′ (negsuc a) (pos b) h = omega arith
-lt→′ (negsuc a) (negsuc b) h = omega (arith, ltb→lt)
-
-lt←′ : (a b : ℤ) → posPart a + negPart b < posPart b + negPart a → T (ltZ a b)
-lt←′ (pos a) (pos b) h = omega (arith, lt→ltb)
-lt←′ (pos a) (negsuc b) h = omega arith
-lt←′ (negsuc a) (pos b) h = tt
-lt←′ (negsuc a) (negsuc b) h = omega (arith, lt→ltb)
+lt↔ : (a b : ℤ) → T (ltZ a b) ↔ posPart a + negPart b < posPart b + negPart a
+lt↔ (pos a) (pos b) = (λ h. omega (arith, ltb→lt), λ h. omega (arith, lt→ltb))
+lt↔ (pos a) (negsuc b) = (absurd, λ h. omega arith)
+lt↔ (negsuc a) (pos b) = (λ h. omega arith, λ h. tt)
+lt↔ (negsuc a) (negsuc b) = (λ h. omega (arith, ltb→lt), λ h. omega (arith, lt→ltb))
 
 eq←′ : (a b : ℤ) → posPart a + negPart b ≡ posPart b + negPart a → a ≡ b
 eq←′ (pos a) (pos b) h = ap pos (omega arith)
@@ -53,16 +41,16 @@ eq←′ (negsuc a) (pos b) h = absurd (omega arith)
 eq←′ (negsuc a) (negsuc b) h = ap negsuc (omega arith)
 
 pub le→ : {a b : ℤ} → a ≤ℤ b → posPart a + negPart b ≤ posPart b + negPart a
-le→ {a} {b} h = le→′ a b (h .le)
+le→ {a} {b} h = le↔ a b .0 (h .le)
 
 pub le← : {a b : ℤ} → posPart a + negPart b ≤ posPart b + negPart a → a ≤ℤ b
-le← {a} {b} h = record { le = le←′ a b h }
+le← {a} {b} h = record { le = le↔ a b .1 h }
 
 pub lt→ : {a b : ℤ} → a <ℤ b → posPart a + negPart b < posPart b + negPart a
-lt→ {a} {b} h = lt→′ a b (h .lt)
+lt→ {a} {b} h = lt↔ a b .0 (h .lt)
 
 pub lt← : {a b : ℤ} → posPart a + negPart b < posPart b + negPart a → a <ℤ b
-lt← {a} {b} h = record { lt = lt←′ a b h }
+lt← {a} {b} h = record { lt = lt↔ a b .1 h }
 
 pub eq→ : {a b : ℤ} → a ≡ b → posPart a + negPart b ≡ posPart b + negPart a
 eq→ {a} e = subst (λ x. posPart a + negPart x ≡ posPart x + negPart a) e refl

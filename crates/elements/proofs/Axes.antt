@@ -15,13 +15,12 @@ use Rattle.model.specs.declared.Element.{Element}
 use Rattle.model.specs.Rounding.{ONE, near}
 use Rattle.model.specs.Acceptance.{frame}
 use Rattle.model.specs.Series.{cosine, sine, angleOf, directionOf, lengthAt, angleAt, directionAt, turned, movedBy, positionOn, tangentOn}
-use Rattle.model.specs.Accepted.{Accepted}
 use Rattle.elements.specs.declared.Prepared.{Prepared}
 use Rattle.elements.specs.declared.series.Reach.{Reach}
 use Rattle.elements.specs.declared.series.Turn.{Turn}
 use Rattle.elements.specs.Signs.{withSign, signOf}
 use Rattle.elements.specs.Prepared.{backward, preparedOf, Ready}
-use Rattle.elements.specs.Reached.{Turnable, Near, TurnAt, Reached, pointOf, headingOf}
+use Rattle.elements.specs.Reached.{Turnable, Near, TurnAt, Reached, ReachedBy, of, elementIn, pointOf, headingOf}
 use Rattle.elements.proofs.Widths.{held, held-small, held-as}
 use Rattle.elements.proofs.Signed.{natAbs-sign, *ℤ-sign, sign-*ℤ, sign-move}
 use Rattle.elements.proofs.Extent.{magnitude-at-most, unit-within, unit-within′, cosine-within, sine-within, extent}
@@ -185,25 +184,35 @@ direction-is Arc radius length l = refl
 direction-is EntrySpiral radius length l = refl
 direction-is ExitSpiral radius length l = refl
 
-module _ (e : Element) {s : ℕ} {r : Reach} (a : Reached e s r) where
-  pub point-is : pointOf e r ≡ positionOn e s
-  unfolding pointOf positionOn movedBy turned
-  point-is = ap₂ (λ (u v : ℤ). movedBy (e .x) (e .y) (turned (e .c) (e .s) (record { along = u; aside = v }))) (a .along) (a .aside)
+-- what is reached at a station of an element that is prepared
+module _ {p : Prepared} {s : ℕ} {r : Reach} (asked : Ready p × (s ≤ p .element .length)) (told : ReachedBy (p .element .kind) (p .element .length) (p .negative) (p .divisor) (p .half) s r) where
+  is-reached : Reached (p .element) s r
+  unfolding elementIn
+  is-reached = told (of p s (asked .0) (asked .1))
 
-  pub heading-is : headingOf e (r .angle) ≡ tangentOn e s
+  pub point-is : pointOf (p .element) r ≡ positionOn (p .element) s
+  unfolding pointOf positionOn movedBy turned
+  point-is =
+      let e = p .element in
+      ap₂ (λ (u v : ℤ). movedBy (e .x) (e .y) (turned (e .c) (e .s) (record { along = u; aside = v }))) (is-reached .along) (is-reached .aside)
+
+  pub heading-is : headingOf (p .element) (r .angle) ≡ tangentOn (p .element) s
   unfolding headingOf tangentOn directionAt angleAt lengthAt
   heading-is =
-      ap (λ (t : ℤ). turned (e .c) (e .s) (record { along = cosine t; aside = withSign (backward (e .kind)) (sine t) })) (a .turned)
+      let e = p .element in
+      ap (λ (t : ℤ). turned (e .c) (e .s) (record { along = cosine t; aside = withSign (backward (e .kind)) (sine t) })) (is-reached .turned)
       ∙ ap (turned (e .c) (e .s)) (direction-is (e .kind) (e .radius) (e .length) (lengthAt e s))
 
-  module _ (k : Accepted e) (h : s ≤ e .length) where
-    pub reach-near : Near r
-    reach-near =
-        let b = extent k h in
+  -- and what the point and the direction ask
+  pub point-asks : Ready p × Near r
+  point-asks =
+      let b = extent (asked .0 .accepted) (asked .1) in (
+        asked .0,
         record {
-          along = omega (arith, magnitude-at-most (backward (e .kind)) (r .along) (a .along) (b .along));
-          aside = omega (arith, magnitude-at-most (signOf (e .radius)) (r .aside) (a .aside) (b .aside));
-        }
+          along = omega (arith, magnitude-at-most (backward (p .element .kind)) (r .along) (is-reached .along) (b .along));
+          aside = omega (arith, magnitude-at-most (signOf (p .element .radius)) (r .aside) (is-reached .aside) (b .aside));
+        },
+      )
 
-    pub reach-angle : r .angle ≤ 2 ^ 29
-    reach-angle = magnitude-at-most (signOf (e .radius)) (r .angle) (a .turned) (extent k h .angle)
+  pub heading-asks : Ready p × (r .angle ≤ 2 ^ 29)
+  heading-asks = (asked .0, magnitude-at-most (signOf (p .element .radius)) (r .angle) (is-reached .turned) (extent (asked .0 .accepted) (asked .1) .angle))

@@ -8,16 +8,10 @@ use Rattle.model.specs.Acceptance.{longestElement, widest}
 use Rattle.model.specs.Rounding.{ONE}
 use Rattle.model.specs.Series.{Series, angleAt}
 use Rattle.model.proofs.Accepted.{numbers}
-use Rattle.elements.specs.declared.Prepared.{Prepared}
 use Rattle.elements.specs.Signs.{withSign}
-use Rattle.elements.specs.Prepared.{Ready}
-use Rattle.elements.specs.Reached.{Curved, SeriesAt, Reached, Reachable, ReachedBy, of, elementIn}
+use Rattle.elements.specs.Reached.{Curved, SeriesAt, Reached, Reachable, of, elementIn}
 use Rattle.elements.specs.declared.series.Reach.{Reach}
 use Rattle.elements.proofs.Preparing.{Spiral, Curve, arc-asks, arc-angle-is, spiral-asks, spiral-angle-is, curved, reached, reached-line}
-
-pub of-prepared : {p : Prepared} {r : Reach} (s : ℕ) → Ready p → s ≤ p .element .length → ReachedBy (p .element .kind) (p .element .length) (p .negative) (p .divisor) (p .half) s r → Reached (p .element) s r
-unfolding elementIn
-of-prepared {p} s y h f = f (of p s y h)
 
 pub on-element : {k : Kind} {l n d h s : ℕ} → Reachable k l n d h s → (s ≤ l) × (l ≤ longestElement)
 on-element (of p s y b) = (b, numbers (y .accepted) .longest)

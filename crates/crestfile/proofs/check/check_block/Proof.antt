@@ -1,9 +1,7 @@
 -- `crestfile::check::check_block` meets its contract: each arm is the one rule of its check.
-use mathlib.Core.Path.{sym, _∙_}
 use borrow.Author.Needs.{needs}
-use Rattle.model.specs.Refusals.{refusal, number, checksum, blockField}
+use Rattle.model.specs.Refusals.{verdict, orRefused, refusal, number}
 use Rattle.crestfile.specs.BlockChecks.{blockRules}
-use Rattle.crestfile.proofs.Orders.{one-done, one-refused}
 use Rattle.crestfile.proofs.check.check_block.Statement.{statement}
 use Rattle.crestfile.proofs.check.check_block.Tie as tie
 
@@ -32,28 +30,20 @@ refused-requires-2 : tie.Need-refused-requires-2
 refused-requires-2 c κs = search needs
 
 returns : tie.Need-returns
-unfolding blockRules
-returns c =
-    let t = c .before in
-    rw (t .before .enum-told .given .1) (sym (one-done checksum _ (sym (t .sums-agree .ensures) ∙ c .if1 .taken)))
+unfolding blockRules verdict orRefused
+returns c = rw (c .before .before .enum-told .given .1, ← c .before .sums-agree .ensures, c .if1 .taken)
 
 returns-2 : tie.Need-returns-2
-unfolding blockRules refusal number
-returns-2 c =
-    let t = c .before .before in
-    rw (t .before .enum-told .given .1) (c .refused .ensures .0 ∙ sym (one-refused checksum _ (sym (t .sums-agree .ensures) ∙ c .before .if1 .left)))
+unfolding blockRules verdict orRefused refusal number
+returns-2 c = rw (c .before .before .before .enum-told .given .1, ← c .before .before .sums-agree .ensures, c .before .if1 .left) (c .refused .ensures .0)
 
 returns-3 : tie.Need-returns-3
-unfolding blockRules
-returns-3 c =
-    let t = c .before in
-    rw (t .before .enum-told2 .given .1) (sym (one-done blockField _ (sym (t .fields-fit .ensures) ∙ c .if2 .taken)))
+unfolding blockRules verdict orRefused
+returns-3 c = rw (c .before .before .enum-told2 .given .1, ← c .before .fields-fit .ensures, c .if2 .taken)
 
 returns-4 : tie.Need-returns-4
-unfolding blockRules refusal number
-returns-4 c =
-    let t = c .before .before in
-    rw (t .before .enum-told2 .given .1) (c .refused2 .ensures .0 ∙ sym (one-refused blockField _ (sym (t .fields-fit .ensures) ∙ c .before .if2 .left)))
+unfolding blockRules verdict orRefused refusal number
+returns-4 c = rw (c .before .before .before .enum-told2 .given .1, ← c .before .before .fields-fit .ensures, c .before .if2 .left) (c .refused2 .ensures .0)
 
 pub check-block-spec : {M : Type 1} → statement M
 check-block-spec =

@@ -9,7 +9,6 @@ use mir.Facts.{toZ-ofZ}
 use mir.Syntax.{w64}
 use Rattle.model.specs.declared.KindByte.the-variants.{Known}
 use Rattle.model.specs.declared.Kind.{Kind}
-use Rattle.model.specs.declared.KindByte.{KindByte}
 use Rattle.model.specs.declared.Outcome.{Outcome}
 use Rattle.model.specs.declared.Outcome.the-variants.{Done}
 use Rattle.model.specs.Kinds.{decide}
@@ -32,11 +31,8 @@ known-kind this r k e = rw e
 
 -- ---- what each test says, at the place after it
 
-decided : (c : tie.After-kind-of) {k : KindByte} → c .kind-of .result ≡ k → decide (byteAt (c .before .before .before .args .rec .now) 0) ≡ k
-decided c e = sym (c .kind-of .ensures) ∙ e
-
 known : (c : tie.After-enum-told3) → let a = c .before .before .before .before .before .args in verdict (recordRules (a .rec .now) (a .r)) ≡ afterKind (a .rec .now) (a .r)
-known c = known-kind _ _ _ (decided (c .before .before) (c .enum-told3 .given .1))
+known c = known-kind _ _ _ (sym (c .before .before .kind-of .ensures) ∙ c .enum-told3 .given .1)
 
 reserved : (c : tie.Else1) → reservedZero (c .before .before .before .before .before .before .before .args .rec .now) ≡ true
 reserved c = sym (c .before .reserved-zero .ensures) ∙ not-false _ (c .if1 .left)
@@ -66,9 +62,7 @@ refused-requires c κs = search needs
 
 returns : tie.Need-returns
 unfolding verdict recordRules orRefused refusal number isDamaged isLater
-returns c =
-    let d = c .before in
-    told-outcome _ (rw (decided (d .before .before) (d .enum-told .given .1)) (c .refused .ensures .0))
+returns c = told-outcome _ (rw (← c .before .before .before .kind-of .ensures, c .before .enum-told .given .1) (c .refused .ensures .0))
 
 enum-told-2 : tie.Need-enum-told-2
 enum-told-2 c = search needs
@@ -78,9 +72,7 @@ refused-requires-2 c κs = search needs
 
 returns-2 : tie.Need-returns-2
 unfolding verdict recordRules orRefused refusal number isDamaged isLater
-returns-2 c =
-    let d = c .before in
-    told-outcome _ (rw (decided (d .before .before) (d .enum-told2 .given .1)) (c .refused2 .ensures .0))
+returns-2 c = told-outcome _ (rw (← c .before .before .before .kind-of .ensures, c .before .enum-told2 .given .1) (c .refused2 .ensures .0))
 
 enum-told-3 : tie.Need-enum-told-3
 enum-told-3 c = search needs

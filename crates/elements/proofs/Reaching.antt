@@ -6,12 +6,14 @@ use Rattle.model.specs.declared.Kind.{Kind}
 use Rattle.model.specs.declared.Kind.the-variants.{Line, Arc}
 use Rattle.model.specs.Acceptance.{longestElement, widest}
 use Rattle.model.specs.Rounding.{ONE}
-use Rattle.model.specs.Series.{Series, angleAt}
+use Rattle.model.specs.Series.{Series, arcSeries, spiralSeries, angleAt}
 use Rattle.model.proofs.Accepted.{numbers}
+use Rattle.elements.specs.declared.Prepared.{Prepared}
 use Rattle.elements.specs.Signs.{withSign}
+use Rattle.elements.specs.Prepared.{Ready}
 use Rattle.elements.specs.Reached.{Curved, SeriesAt, Reached, Reachable, of, elementIn}
 use Rattle.elements.specs.declared.series.Reach.{Reach}
-use Rattle.elements.proofs.Preparing.{Spiral, Curve, arc-asks, arc-angle-is, spiral-asks, spiral-angle-is, curved, reached, reached-line}
+use Rattle.elements.proofs.Preparing.{Spiral, Curve, arc, spiral, arc-asks, arc-angle-is, spiral-asks, spiral-angle-is, curved, reached, reached-line}
 
 pub on-element : {k : Kind} {l n d h s : ℕ} → Reachable k l n d h s → (s ≤ l) × (l ≤ longestElement)
 on-element (of p s y b) = (b, numbers (y .accepted) .longest)
@@ -26,20 +28,23 @@ arc-asked (of p s y b) e = arc-asks p y s b e
 pub spiral-asked : {k : Kind} {l n d h s z : ℕ} → Reachable k l n d h s → Spiral k l s z → (z ≤ longestElement) × (h < 2 ^ 44) × (1 ≤ d) × (d < 2 ^ 44) × (z * z ≤ d)
 spiral-asked (of p s y b) w = spiral-asks p y b w
 
--- the angle, as it is computed
-pub arc-turned : {k : Kind} {l n d h s a : ℕ} (x : Reachable k l n d h s) → k ≡ Arc → a ≡ (2 * (ONE * s) + h) / d → withSign n (pos a) ≡ angleAt (elementIn x) s
-unfolding elementIn
-arc-turned (of p s y b) e q = ap (λ (z : ℕ). withSign (p .negative) (pos z)) q ∙ arc-angle-is p y s b e
+-- the angle of a curve at s as it is computed, with the series of the curve and the length that the series takes
+pub data Turning (k : Kind) (l d h s : ℕ) : Series → ℕ → ℕ → Type 0 where
+  by-arc : {a : ℕ} → k ≡ Arc → a ≡ (2 * (ONE * s) + h) / d → Turning k l d h s arcSeries s a
+  by-spiral : {z a : ℕ} → Spiral k l s z → a ≡ (ONE * (z * z) + h) / d → Turning k l d h s spiralSeries z a
 
-pub spiral-turned : {k : Kind} {l n d h s z a : ℕ} (x : Reachable k l n d h s) → Spiral k l s z → a ≡ (ONE * (z * z) + h) / d → withSign n (pos a) ≡ angleAt (elementIn x) s
-unfolding elementIn
-spiral-turned (of p s y b) w q = ap (λ (z : ℕ). withSign (p .negative) (pos z)) q ∙ spiral-angle-is p y b w
+curve-of : {k : Kind} {l d h s z a : ℕ} {K : Series} → Turning k l d h s K z a → Curve k l s K z
+curve-of (by-arc e q) = arc e
+curve-of (by-spiral w q) = spiral w
+
+turned : {s z a : ℕ} {K : Series} (p : Prepared) → Ready p → s ≤ p .element .length → Turning (p .element .kind) (p .element .length) (p .divisor) (p .half) s K z a → withSign (p .negative) (pos a) ≡ angleAt (p .element) s
+turned {s} p y b (by-arc e q) = ap (λ (z : ℕ). withSign (p .negative) (pos z)) q ∙ arc-angle-is p y s b e
+turned p y b (by-spiral w q) = ap (λ (z : ℕ). withSign (p .negative) (pos z)) q ∙ spiral-angle-is p y b w
 
 -- u and v of a curve at that angle: what the series asks, and that they are the definitions'
-pub curve-curved : {k : Kind} {l n d h s z a : ℕ} {K : Series} (x : Reachable k l n d h s) → Curve k l s K z → withSign n (pos a) ≡ angleAt (elementIn x) s → Curved z a n
-unfolding elementIn
-curve-curved (of p s y b) w t = curved p y b w t
+pub curve-curved : {k : Kind} {l n d h s z a : ℕ} {K : Series} → Reachable k l n d h s → Turning k l d h s K z a → Curved z a n
+curve-curved (of p s y b) t = curved p y b (curve-of t) (turned p y b t)
 
-pub curve-reached : {k : Kind} {l n d h s z a : ℕ} {K : Series} {r : Reach} (x : Reachable k l n d h s) → Curve k l s K z → withSign n (pos a) ≡ angleAt (elementIn x) s → SeriesAt K z a n r → Reached (elementIn x) s r
+pub curve-reached : {k : Kind} {l n d h s z a : ℕ} {K : Series} {r : Reach} (x : Reachable k l n d h s) → Turning k l d h s K z a → SeriesAt K z a n r → Reached (elementIn x) s r
 unfolding elementIn
-curve-reached (of p s y b) w t m = reached p y b w t m
+curve-reached (of p s y b) t m = reached p y b (curve-of t) (turned p y b t) m

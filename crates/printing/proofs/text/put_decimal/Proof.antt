@@ -22,7 +22,7 @@ put-word-requires : tie.Need-put-word-requires
 put-word-requires c κs =
     let d = c .before .before .decimal in
     let a = c .before .before .before .before .before .args in
-    let few = fewest-short (a .n) (d .result) (c .before .before .before .before .before .fits .n .fits) (d .ensures .1 .0) in
+    let few = fewest-short _ _ (c .before .before .before .before .before .fits .n .fits) (d .ensures .1 .0) in
     let h : a .at + length (take (d .result) (d .last .1 .0)) ≤ length (a .room .now) = omega (arith, d .ensures .0 .1) in
     h
 
@@ -33,8 +33,8 @@ returns : tie.Need-returns
 returns c =
     let d = c .before .before .before .before .before .decimal in
     let start = c .before .before .before .before .before .before .before .before in
-    let text = d .ensures .1 .1 ∙ fewest-decimal (start .args .n) (d .result) (d .ensures .1 .0) in
-    let few = fewest-short (start .args .n) (d .result) (start .fits .n .fits) (d .ensures .1 .0) in
+    let text = d .ensures .1 .1 ∙ fewest-decimal _ _ (d .ensures .1 .0) in
+    let few = fewest-short _ _ (start .fits .n .fits) (d .ensures .1 .0) in
     let w = c .before .before .put-word in
     (w .ensures .0 ∙ ap (puts _ _) text, omega (arith, d .ensures .0 .1))
 

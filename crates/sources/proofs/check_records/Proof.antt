@@ -49,8 +49,7 @@ enum-told c = search needs
 add-r : tie.Need-add-r Inv-loop μ-loop
 add-r c =
     let o = c .before .before .before in
-    let s = o .before .before .before .before .before in
-    omega (arith, o .loop-test .taken, o .before .loop .inv .0, records-counted (s .args .form) (s .args .crest .now) (s .args .amendment .now) (s .pre))
+    omega (arith, o .loop-test .taken, o .before .loop .inv .0, records-counted _ _ _ (o .before .before .before .before .before .pre))
 
 loop-less : tie.Need-loop-less Inv-loop μ-loop
 loop-less c = omega arith

@@ -1,8 +1,6 @@
 -- `sources::count_in` meets its contract, by the two forms.
-use mathlib.Core.Path.{subst}
 use borrow.Author.Needs.{needs}
-use Rattle.sources.specs.declared.Form.{Form}
-use Rattle.sources.specs.Sources.{layoutRules, recordsIn, Readable}
+use Rattle.sources.specs.Sources.{layoutRules, recordsIn}
 use Rattle.sources.proofs.count_in.Statement.{statement}
 use Rattle.sources.proofs.count_in.Tie as tie
 
@@ -11,9 +9,7 @@ enum-told c = search needs
 
 record-count-requires : tie.Need-record-count-requires
 unfolding layoutRules
-record-count-requires c κs =
-    let s = c .before .before .before .before in
-    subst (λ (f : Form). Readable f (s .args .crest .now) (s .args .amendment .now)) (c .enum-told .given .1) (s .pre)
+record-count-requires c κs = rw (c .enum-told .given .1) at (c .before .before .before .before .pre)
 
 enum-told-2 : tie.Need-enum-told-2
 enum-told-2 c = search needs

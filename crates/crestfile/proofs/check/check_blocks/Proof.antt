@@ -1,13 +1,12 @@
 -- `crestfile::check::check_blocks` meets its contract: the rules of the length, then of all sums, then of all fields.
-use Prim.Native.Nat.{ℕ, _≤_}
-use mathlib.Core.List.{List, [], _∷_}
+use Prim.Native.Nat.{_≤_}
+use mathlib.Core.List.{[], _∷_}
 use mathlib.Core.Path.{_≡_, sym, _∙_}
 use native.Mathlib.Omega.{arith}
 use borrow.Author.Needs.{needs}
 use lib.ListN.{length}
 use Rattle.model.specs.declared.Outcome.the-variants.{Done}
-use Rattle.model.specs.Records.{blockCount}
-use Rattle.model.specs.Refusals.{Rule, rule₀, verdict, forEach, byteCount}
+use Rattle.model.specs.Refusals.{rule₀, verdict, byteCount}
 use Rattle.model.specs.Acceptance.{lengthFits, sumRules, fieldRules, blocksRules}
 use Rattle.model.proofs.Verdict.{done→all, verdict-after, refused-before}
 use Rattle.model.proofs.Answers.{told-outcome}
@@ -17,19 +16,11 @@ use Rattle.crestfile.proofs.Crest.{fits→sized}
 use Rattle.crestfile.proofs.check.check_blocks.Statement.{statement}
 use Rattle.crestfile.proofs.check.check_blocks.Tie as tie
 
-abbrev runLengthRules : List ℕ → List Rule
-runLengthRules file = rule₀ byteCount (lengthFits (length file)) ∷ []
-
-abbrev sums : List ℕ → List Rule
-sums file = forEach (sumRules file) (blockCount file) 0
-
-passed : (c : tie.After-enum-told) → verdict (runLengthRules (c .before .before .before .before .args .file .now)) ≡ Done
+passed : (c : tie.After-enum-told) → verdict (rule₀ byteCount (lengthFits (length (c .before .before .before .before .args .file .now))) ∷ []) ≡ Done
 passed c = sym (c .before .before .check-length .ensures) ∙ c .enum-told .given .1
 
 not-longer : (c : tie.After-enum-told) → length (c .before .before .before .before .args .file .now) ≤ 2048
-not-longer c =
-    let file = c .before .before .before .before .args .file .now in
-    omega (arith, fits→sized (length file) (holds-one (done→all (runLengthRules file) (passed c))))
+not-longer c = omega (arith, fits→sized _ (holds-one (done→all _ (passed c))))
 
 check-length-requires : tie.Need-check-length-requires
 check-length-requires c κs = search needs
@@ -39,10 +30,7 @@ enum-known-length c = search needs
 
 returns : tie.Need-returns
 unfolding blocksRules
-returns c =
-    let l = c .before .before .before in
-    let file = l .before .before .args .file .now in
-    told-outcome _ (sym (refused-before (runLengthRules file) _ (sym (l .check-length .ensures) ∙ c .before .length .given .1)))
+returns c = told-outcome _ (sym (refused-before _ _ (sym (c .before .before .before .check-length .ensures) ∙ c .before .length .given .1)))
 
 enum-told : tie.Need-enum-told
 enum-told c = search needs
@@ -57,8 +45,7 @@ returns-2 : tie.Need-returns-2
 unfolding blocksRules sumRules eachBlock blockRules
 returns-2 c =
     let s = c .before .before .before in
-    let file = s .before .before .before .before .before .args .file .now in
-    told-outcome _ (sym (verdict-after (runLengthRules file) _ (passed (s .before)) ∙ refused-before (sums file) _ (sym (s .check-each .ensures) ∙ c .before .sums .given .1)))
+    told-outcome _ (sym (verdict-after _ _ (passed (s .before)) ∙ refused-before _ _ (sym (s .check-each .ensures) ∙ c .before .sums .given .1)))
 
 enum-told-2 : tie.Need-enum-told-2
 enum-told-2 c = search needs
@@ -70,9 +57,10 @@ returns-3 : tie.Need-returns-3
 unfolding blocksRules sumRules fieldRules eachBlock blockRules
 returns-3 c =
     let s = c .before .before .before in
-    let file = s .before .before .before .before .before .args .file .now in
-    told-outcome _ (c .check-each2 .ensures
-    ∙ sym (verdict-after (runLengthRules file) _ (passed (s .before)) ∙ verdict-after (sums file) _ (sym (s .check-each .ensures) ∙ c .before .enum-told2 .given .1)))
+    told-outcome
+    _
+    (c .check-each2 .ensures
+    ∙ sym (verdict-after _ _ (passed (s .before)) ∙ verdict-after _ _ (sym (s .check-each .ensures) ∙ c .before .enum-told2 .given .1)))
 
 pub check-blocks-spec : {M : Type 1} → statement M
 check-blocks-spec =

@@ -205,15 +205,15 @@ pub record Left (pass : Pass) (u : List Element) (q : Point) (w : Seen) (i : ℕ
   pub best : v .best ≤ w .best
   pub visits : v .visits ≤ w .visits + total (take i u) + 2 * i
 
-pub left-start : (pass : Pass) (u : List Element) (q : Point) (w : Seen) → Left pass u q w 0 w
+pub left-start : {pass : Pass} {u : List Element} {q : Point} {w : Seen} → Left pass u q w 0 w
 unfolding total
-left-start pass u q w = record { rest = refl; best = omega arith; visits = omega arith }
+left-start = record { rest = refl; best = omega arith; visits = omega arith }
 
 first-over : (pass : Pass) (d : ℕ → ℕ) {l : List Element} {e : Element} {es : List Element} (s : ℕ) (v : Seen) → l ≡ e ∷ es → passOver pass d l s v ≡ passOver pass d es (s + e .length) (passOn pass d (e .length) (ownStations e es) s v)
 unfolding passOver
 first-over pass d s v q = ap (λ (x : List Element). passOver pass d x s v) q
 
-module _ (pass : Pass) (u : List Element) (q : Point) (w : Seen) (i : ℕ) (v : Seen) (e : Element) (l : Left pass u q w i v) (split : drop i u ≡ e ∷ drop (suc i) u) where
+module _ {pass : Pass} {u : List Element} {q : Point} {w : Seen} {i : ℕ} {v : Seen} {e : Element} (l : Left pass u q w i v) (split : drop i u ≡ e ∷ drop (suc i) u) where
   abbrev es : List Element
   es = drop (suc i) u
 
@@ -228,8 +228,8 @@ module _ (pass : Pass) (u : List Element) (q : Point) (w : Seen) (i : ℕ) (v : 
       let y : s + (x - s) ≡ x = omega arith in
       rw (whole, y) at (D-own (take i u) e es q (x - s) (omega arith))
 
-  pub left-step : (v′ : Seen) → v′ ≡ passOn pass (onElement e (total (take i u)) q) (e .length) (ownStations e (drop (suc i) u)) (total (take i u)) v → Left pass u q w (i + 1) v′
-  left-step v′ p =
+  pub left-step : {v′ : Seen} → v′ ≡ passOn pass (onElement e (total (take i u)) q) (e .length) (ownStations e (drop (suc i) u)) (total (take i u)) v → Left pass u q w (i + 1) v′
+  left-step {v′} p =
       let own = ownStations e es in
       let between = own-between e es in
       let f = onElement e s q in
@@ -244,6 +244,6 @@ module _ (pass : Pass) (u : List Element) (q : Point) (w : Seen) (i : ℕ) (v : 
         visits = rw (n, next) (omega (arith, l .visits, ap (λ (x : Seen). x .visits) p, pass-visits pass f (e .length) own s v, between .1));
       }
 
-pub left-done : (pass : Pass) (u : List Element) (q : Point) (w : Seen) (i : ℕ) (v : Seen) → Left pass u q w i v → length u ≤ i → v ≡ passOver pass (D u q) u 0 w
+pub left-done : {pass : Pass} {u : List Element} {q : Point} {w : Seen} {i : ℕ} {v : Seen} → Left pass u q w i v → length u ≤ i → v ≡ passOver pass (D u q) u 0 w
 unfolding passOver
-left-done pass u q w i v l h = rw (drop-of-length-le u h) at (l .rest)
+left-done {u} l h = rw (drop-of-length-le u h) at (l .rest)

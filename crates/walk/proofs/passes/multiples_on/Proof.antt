@@ -66,9 +66,8 @@ loop-again c =
 
 returns : tie.Need-returns Inv-loop μ-loop
 returns c =
-    let a = c .before .before .args in
     let l = c .before .loop in
-    sym (multiples-none (onElement (a .p .element) (a .start) (a .q)) (above (a .start + a .own) - l .s / 1000) (l .s) (l .v) (omega arith)) ∙ l .inv .0
+    sym (multiples-none _ _ (l .s) (l .v) (omega arith)) ∙ l .inv .0
 
 pub multiples-on-spec : {M : Type 1} → statement M
 multiples-on-spec =

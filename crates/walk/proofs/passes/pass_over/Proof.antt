@@ -59,10 +59,7 @@ count-in-requires c κs = c .before .before .pre .0 .readable
 
 loop-holds : tie.Need-loop-holds Inv-loop μ-loop
 unfolding total
-loop-holds c =
-    let s = c .before .before .before in
-    let a = s .args in
-    (record { source = s .pre .0; all = c .count-in .ensures }, omega arith, refl, left-start (a .pass) (es s) (a .q) (a .w))
+loop-holds c = (record { source = c .before .before .before .pre .0; all = c .count-in .ensures }, omega arith, refl, left-start)
 
 element-in-requires : tie.Need-element-in-requires Inv-loop μ-loop
 element-in-requires c κs = read-asks (c .before .loop .inv .0) (c .before .loop .i) (c .loop-test .taken)
@@ -132,15 +129,11 @@ loop-again c =
       l .inv .0,
       omega (arith, o .loop-test .taken),
       rw (add-one (l .i)) (omega (arith, ends o .0, length-is p)),
-      left-step (a .pass) (es s) (a .q) (a .w) (l .i) (l .v) (el o) (l .inv .3) (read-at (l .inv .0) (l .i) (o .loop-test .taken)) (c .pass-on .result) seen,
+      left-step (l .inv .3) (read-at (l .inv .0) (l .i) (o .loop-test .taken)) seen,
     )
 
 returns : tie.Need-returns Inv-loop μ-loop
-returns c =
-    let s = c .before .before .before .before .before in
-    let a = s .args in
-    let l = c .before .loop in
-    left-done (a .pass) (es s) (a .q) (a .w) (l .i) (l .v) (l .inv .3) (omega (arith, c .loop-test .left, read-length (l .inv .0)))
+returns c = let l = c .before .loop in left-done (l .inv .3) (omega (arith, c .loop-test .left, read-length (l .inv .0)))
 
 pub pass-over-spec : {M : Type 1} → statement M
 pass-over-spec =

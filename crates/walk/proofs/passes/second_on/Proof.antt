@@ -68,9 +68,8 @@ loop-again c =
 returns : tie.Need-returns Inv-loop μ-loop
 unfolding secondOn
 returns c =
-    let a = c .before .before .args in
     let l = c .before .loop in
-    sym (second-none (onElement (a .p .element) (a .start) (a .q)) (a .start + a .own - l .s) (l .s) (l .v) (omega arith)) ∙ l .inv .0
+    sym (second-none _ _ (l .s) (l .v) (omega arith)) ∙ l .inv .0
 
 pub second-on-spec : {M : Type 1} → statement M
 second-on-spec =

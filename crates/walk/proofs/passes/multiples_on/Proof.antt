@@ -51,14 +51,10 @@ loop-less c = omega arith
 loop-again : tie.Need-loop-again Inv-loop μ-loop
 unfolding onElement
 loop-again c =
-    let near = c .before in
-    let o = near .before .before in
-    let a = o .before .args in
-    let end = a .start + a .own in
-    let s = o .loop .s in
-    let d = onElement (a .p .element) (a .start) (a .q) in (
-      sym (multiples-step d (above end - s / 1000) (above end - (s + 1000) / 1000) s (near .distance .result) (o .loop .v) (c .seen .result) (omega arith) (near .distance .ensures) (c .seen .ensures)) ∙ o .loop .inv .0,
-      omega (arith, ap (λ (x : Seen). x .visits) (c .seen .ensures), seenAt-visits (near .distance .result) s (o .loop .v)),
+    let d = c .before .distance in
+    let l = c .before .before .before .loop in (
+      sym (multiples-step _ _ _ (l .s) _ (l .v) _ (omega arith) (d .ensures) (c .seen .ensures)) ∙ l .inv .0,
+      omega (arith, ap (λ (x : Seen). x .visits) (c .seen .ensures), seenAt-visits (d .result) (l .s) (l .v)),
       omega arith,
       omega arith,
       omega arith,

@@ -54,11 +54,9 @@ loop-again c =
     let t = c .before .before .stepped in
     let near = c .before .before .before in
     let d = near .distance in
-    let o = near .before .before in
-    let a = o .before .args in
-    let l = o .loop in
+    let l = near .before .before .loop in
     let best : v .result .best ≡ min (l .v .best) (d .result) = ap (λ (x : Seen). x .best) (v .ensures) ∙ seenAt-best (d .result) (l .s) (l .v) in (
-      sym (second-step (onElement (a .p .element) (a .start) (a .q)) (a .start + a .own) (l .s) (d .result) (t .result .skip) (l .v) (v .result) (near .before .loop-test .taken) (d .ensures) (v .ensures) (t .ensures .skip)) ∙ l .inv .0,
+      sym (second-step _ _ (l .s) _ _ (l .v) _ (near .before .loop-test .taken) (d .ensures) (v .ensures) (t .ensures .skip)) ∙ l .inv .0,
       omega (arith, ap (λ (x : Seen). x .visits) (v .ensures), seenAt-visits (d .result) (l .s) (l .v)),
       omega arith,
       omega (arith, best),

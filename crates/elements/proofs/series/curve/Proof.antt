@@ -26,10 +26,7 @@ returns c =
     let second = c .before in
     let first = second .before .before in
     let square = first .before .before .before in
-    let x = square .before .args in
-    series-at (x .negative) (x .angle) (square .square-of .result) (square .square-of .ensures .0) (seriesOf (x .k)) (x .length)
-    (first .factor-of .result) (second .factor-of2 .result) _ (first .factor-of .ensures .0) (second .factor-of2 .ensures .0)
-    refl (second .before .along .ensures) (c .aside .ensures)
+    series-at _ _ _ (square .square-of .ensures .0) (seriesOf (square .before .args .k)) _ _ _ _ (first .factor-of .ensures .0) (second .factor-of2 .ensures .0) refl (second .before .along .ensures) (c .aside .ensures)
 
 pub curve-spec : {M : Type 1} → statement M
 curve-spec =

@@ -29,10 +29,7 @@ returns : tie.Need-returns
 returns c =
     let second = c .before in
     let first = second .before in
-    let square = first .before in
-    let x = square .before .args in
-    turn-at (x .negative) (x .angle) (square .square-of .result) (square .square-of .ensures .0)
-    (second .factor-of2 .result) _ (second .factor-of2 .ensures .0) (first .factor-of .ensures .0) (c .near-even .ensures)
+    turn-at _ _ _ (first .before .square-of .ensures .0) _ _ (second .factor-of2 .ensures .0) (first .factor-of .ensures .0) (c .near-even .ensures)
 
 pub direction-spec : {M : Type 1} → statement M
 direction-spec =

@@ -16,18 +16,13 @@ inner-product c = mul-le-mul (c .pre .ratio) (c .pre .small)
 
 module _ (c : tie.After-near-even) where
   quotient-small : c .near-even .result ≤ ONE
-  quotient-small =
-      let s = c .before .before in
-      near-at-most 0 (s .args .f .b * s .args .square) (s .args .f .d) (c .near-even .result) ONE (omega arith) (c .near-even .ensures) (inner-product s)
+  quotient-small = near-at-most 0 _ _ _ ONE (omega arith) (c .near-even .ensures) (inner-product (c .before .before))
 
   outer-product : c .before .before .args .square * (ONE - c .near-even .result) ≤ ONE * ONE
   outer-product = mul-le-mul {n₁ = c .before .before .args .square} {m₁ = ONE - c .near-even .result} {n₂ = ONE} {m₂ = ONE} (c .before .before .pre .small) (omega arith)
 
 outer-small : (c : tie.After-near-even2) → c .near-even2 .result ≤ ONE
-outer-small c =
-    let s = c .before .before .before .before in
-    near-at-most 0 (s .args .square * (ONE - c .before .before .near-even .result)) (s .args .f .a * ONE) (c .near-even2 .result) ONE (omega arith) (c .near-even2 .ensures)
-    (omega (arith, outer-product (c .before .before)))
+outer-small c = near-at-most 0 _ _ _ ONE (omega arith) (c .near-even2 .ensures) (omega (arith, outer-product (c .before .before)))
 
 mul-near-even : tie.Need-mul-near-even
 mul-near-even c = omega (arith, inner-product (c .before))
@@ -52,12 +47,7 @@ sub-result c = outer-small c
 
 returns : tie.Need-returns
 unfolding withSign
-returns c =
-    let s = c .before .before .before .before in (
-      factor-step (factorOf (s .args .f)) (s .args .square) (c .before .before .near-even .result) (c .near-even2 .result)
-          (quotient-small (c .before .before)) (outer-small c) (c .before .before .near-even .ensures) (c .near-even2 .ensures),
-      omega arith,
-    )
+returns c = (factor-step (factorOf (c .before .before .before .before .args .f)) _ _ _ (quotient-small (c .before .before)) (outer-small c) (c .before .before .near-even .ensures) (c .near-even2 .ensures), omega arith)
 
 pub factor-of-spec : {M : Type 1} → statement M
 factor-of-spec =

@@ -28,7 +28,7 @@ use Rattle.elements.proofs.Preparing.{negative-is}
 
 -- ---- a coordinate through 64 bits
 
-module _ (x a : ℤ) (u : ℕ) (b : ℤ) (v : ℕ) (t : Turnable x a u b v) where
+module _ {x a : ℤ} {u : ℕ} {b : ℤ} {v : ℕ} (t : Turnable x a u b v) where
   held-x : held x ≡ x
   held-x = held-small x (omega (arith, t .anchor))
 
@@ -56,7 +56,7 @@ module _ (x a : ℤ) (u : ℕ) (b : ℤ) (v : ℕ) (t : Turnable x a u b v) wher
 
 -- ---- the axes
 
-module _ (p : Prepared) (y : Ready p) where
+module _ {p : Prepared} (y : Ready p) where
   abbrev e : Element
   e = p .element
 
@@ -111,27 +111,26 @@ module _ (p : Prepared) (y : Ready p) where
 
   -- ---- the position
 
-  module _ (r : Reach) where
-    pub point-x : e .x +ℤ near (p .ux *ℤ pos (r .along) +ℤ p .vx *ℤ pos (r .aside)) ONE ≡ pointOf e r .x
-    unfolding pointOf movedBy turned
-    point-x =
-        ap (λ (z : ℤ). e .x +ℤ near z ONE)
-        (ap₂ _+ℤ_ (axis back (e .c) (r .along) ux-is) (axis sign (negℤ (e .s)) (r .aside) vx-is ∙ neg-*ℤ (e .s) (withSign sign (pos (r .aside)))))
+  pub point-x : (r : Reach) → e .x +ℤ near (p .ux *ℤ pos (r .along) +ℤ p .vx *ℤ pos (r .aside)) ONE ≡ pointOf e r .x
+  unfolding pointOf movedBy turned
+  point-x r =
+      ap (λ (z : ℤ). e .x +ℤ near z ONE)
+      (ap₂ _+ℤ_ (axis back (e .c) (r .along) ux-is) (axis sign (negℤ (e .s)) (r .aside) vx-is ∙ neg-*ℤ (e .s) (withSign sign (pos (r .aside)))))
 
-    pub point-y : e .y +ℤ near (p .uy *ℤ pos (r .along) +ℤ p .vy *ℤ pos (r .aside)) ONE ≡ pointOf e r .y
-    unfolding pointOf movedBy turned
-    point-y = ap (λ (z : ℤ). e .y +ℤ near z ONE) (ap₂ _+ℤ_ (axis back (e .s) (r .along) uy-is) (axis sign (e .c) (r .aside) vy-is))
+  pub point-y : (r : Reach) → e .y +ℤ near (p .uy *ℤ pos (r .along) +ℤ p .vy *ℤ pos (r .aside)) ONE ≡ pointOf e r .y
+  unfolding pointOf movedBy turned
+  point-y r = ap (λ (z : ℤ). e .y +ℤ near z ONE) (ap₂ _+ℤ_ (axis back (e .s) (r .along) uy-is) (axis sign (e .c) (r .aside) vy-is))
 
-    module _ (n : Near r) where
-      pub point-turnable-x : Turnable (e .x) (p .ux) (r .along) (p .vx) (r .aside)
-      point-turnable-x = record { anchor = numbers (y .accepted) .anchorX; first = ux-within; second = vx-within; along = n .along; aside = n .aside }
+  module _ {r : Reach} (n : Near r) where
+    pub point-turnable-x : Turnable (e .x) (p .ux) (r .along) (p .vx) (r .aside)
+    point-turnable-x = record { anchor = numbers (y .accepted) .anchorX; first = ux-within; second = vx-within; along = n .along; aside = n .aside }
 
-      pub point-turnable-y : Turnable (e .y) (p .uy) (r .along) (p .vy) (r .aside)
-      point-turnable-y = record { anchor = numbers (y .accepted) .anchorY; first = uy-within; second = vy-within; along = n .along; aside = n .aside }
+    pub point-turnable-y : Turnable (e .y) (p .uy) (r .along) (p .vy) (r .aside)
+    point-turnable-y = record { anchor = numbers (y .accepted) .anchorY; first = uy-within; second = vy-within; along = n .along; aside = n .aside }
 
   -- ---- the direction
 
-  module _ (angle : ℕ) (h : angle ≤ 2 ^ 29) (d : Turn) (t : TurnAt angle (p .negative) d) where
+  module _ {angle : ℕ} {d : Turn} (h : angle ≤ 2 ^ 29) (t : TurnAt angle (p .negative) d) where
     abbrev turn : ℤ
     turn = withSign sign (pos angle)
 

@@ -43,7 +43,7 @@ returns : tie.Need-returns
 returns c =
     let s = c .before .before .before .before in
     let a = s .pre .0 .alignment in
-    found (es s) (a .some) (a .each) (s .args .q) (s .pre .1) (c .before .pass-over .result) (c .pass-over2 .result) (c .before .pass-over .ensures) (c .pass-over2 .ensures)
+    found _ (a .some) (a .each) _ (s .pre .1) _ _ (c .before .pass-over .ensures) (c .pass-over2 .ensures)
 
 pub walk-spec : {M : Type 1} → statement M
 walk-spec = tie.close (tie.spec pass-over-requires pass-over-requires-2 returns)

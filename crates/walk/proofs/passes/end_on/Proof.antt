@@ -23,10 +23,7 @@ seen-requires c κs = search needs
 returns-3 : tie.Need-returns-3
 returns-3 c =
     let near = c .before in
-    let a = near .before .before .before .before .args in
-    end-visited _ (a .p .element .length) (a .own) (a .start) (near .distance .result) (a .w) (c .seen .result) (near .before .before .if1 .left) (near .before .if2 .left)
-    (near .distance .ensures ∙ onElement-at (a .p .element) (a .start) (a .q) (a .p .element .length))
-    (c .seen .ensures)
+    end-visited _ _ _ _ _ _ _ (near .before .before .if1 .left) (near .before .if2 .left) (near .distance .ensures ∙ onElement-at _ _ _ _) (c .seen .ensures)
 
 pub end-on-spec : {M : Type 1} → statement M
 end-on-spec =

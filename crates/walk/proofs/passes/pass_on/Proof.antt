@@ -1,9 +1,9 @@
 -- `walk::passes::pass_on` meets its contract: each arm is the pass that it names.
-use mathlib.Core.Path.{sym, _∙_, ap}
+use mathlib.Core.Path.{ap}
 use native.Mathlib.Omega.{arith}
 use borrow.Author.Needs.{needs}
 use Rattle.walk.specs.declared.Seen.{Seen}
-use Rattle.walk.specs.Search.{seenOver, onElement, firstOn, endVisit, passVisits, passOn}
+use Rattle.walk.specs.Search.{onElement, firstOn, passVisits, passOn}
 use Rattle.walk_laws.proofs.Visits.{bestOf-≤}
 use Rattle.walk.proofs.Seeing.{seenOver-++, seenOver-best, seenOver-visits}
 use Rattle.walk.proofs.Passing.{first-length}
@@ -41,13 +41,7 @@ second-on-requires c κs = search needs
 
 returns : tie.Need-returns
 unfolding passOn passVisits
-returns c =
-    let a = c .before .before .before .before .args in
-    let d = onElement (a .p .element) (a .start) (a .q) in
-    rw (c .before .before .enum-told .given .1)
-    (c .end-on .ensures
-    ∙ ap (seenOver d (endVisit (a .p .element .length) (a .own) (a .start))) (c .before .multiples-on .ensures)
-    ∙ sym (seenOver-++ d (firstOn (a .own) (a .start)) (endVisit (a .p .element .length) (a .own) (a .start)) (a .w)))
+returns c = rw (c .before .before .enum-told .given .1, seenOver-++, ← c .before .multiples-on .ensures) (c .end-on .ensures)
 
 returns-2 : tie.Need-returns-2
 unfolding passOn passVisits

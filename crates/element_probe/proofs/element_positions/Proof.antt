@@ -48,11 +48,10 @@ returns-2 c = sym (of-refused _ _ (c .before .before .before .if1 .left) (sym (c
 returns-3 : tie.Need-returns-3
 returns-3 c =
     let k = c .before .before in
-    let x = k .before .before .before .before .before .before in
-    toZ-ofZ w64 (c .positions .result) (record { sfits = c .positions .ok })
+    toZ-ofZ w64 _ (record { sfits = c .positions .ok })
     ∙ c .positions .ensures
-    ∙ ap (λ (e : Element). sumFrom e (x .args .count) 0) (prepared-element _ (c .before .prepare .ensures .0) ∙ k .element .ensures)
-    ∙ sym (of-accepted (now (x .args .rec)) (x .args .count) (omega arith) (accepted k))
+    ∙ ap (λ (e : Element). sumFrom e (k .before .before .before .before .before .before .args .count) 0) (prepared-element _ (c .before .prepare .ensures .0) ∙ k .element .ensures)
+    ∙ sym (of-accepted _ _ (omega arith) (accepted k))
 
 pub element-positions-spec : {M : Type 1} → statement M
 element-positions-spec =

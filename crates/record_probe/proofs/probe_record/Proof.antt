@@ -15,9 +15,7 @@ use Rattle.record_probe.proofs.probe_record.Statement.{statement}
 use Rattle.record_probe.proofs.probe_record.Tie as tie
 
 returns : tie.Need-returns
-returns c =
-    let a = c .before .before .before .args in
-    sym (other-room (now (a .file)) (a .r) (now (a .out)) (c .if1 .taken))
+returns c = sym (other-room _ _ _ (c .if1 .taken))
 
 record-outcome-requires : tie.Need-record-outcome-requires
 record-outcome-requires c κs = search needs
@@ -43,7 +41,7 @@ module _ (c : tie.After-record-part) where
 
   -- a record is as long as its room
   whole : length (now (c .record-part .result)) ≡ 32
-  whole = c .record-part .ensures .1 .count ∙ ap (λ (s : Span). s .count) (span-done (now (start .args .file)) (start .args .r) done)
+  whole = c .record-part .ensures .1 .count ∙ ap (λ (s : Span). s .count) (span-done _ _ done)
 
 copy-at-requires : tie.Need-copy-at-requires
 copy-at-requires c κs = omega (arith, whole c, sized c)
@@ -52,10 +50,7 @@ enum-known-why : tie.Need-enum-known-why
 enum-known-why c = search needs
 
 code-of-requires : tie.Need-code-of-requires
-code-of-requires c κs =
-    let o = c .before .before .before in
-    let a = o .before .before .before .before .args in
-    refusal-small (now (a .file)) (a .r) (sym (o .record-outcome .ensures .0) ∙ c .before .why .given .1)
+code-of-requires c κs = refusal-small _ _ (sym (c .before .before .before .record-outcome .ensures .0) ∙ c .before .why .given .1)
 
 same-length : tie.Need-same-length
 same-length c = search needs
@@ -64,17 +59,15 @@ returns-2 : tie.Need-returns-2
 returns-2 c =
     let m = c .before .before in
     let p = m .before in
-    let a = start p .args in
-    let copied = m .copy-at .ensures ∙ put-whole (now (a .out)) (now (p .record-part .result)) (omega (arith, whole p, sized p)) in
-    ap (λ (l : List ℕ). (0, l)) (copied ∙ p .record-part .ensures .0) ∙ sym (taken (now (a .file)) (a .r) (now (a .out)) (sized p) (done p))
+    let copied = m .copy-at .ensures ∙ put-whole _ _ (omega (arith, whole p, sized p)) in
+    ap (λ (l : List ℕ). (0, l)) (copied ∙ p .record-part .ensures .0) ∙ sym (taken _ _ _ (sized p) (done p))
 
 returns-3 : tie.Need-returns-3
 returns-3 c =
     let k = c .before .before in
     let o = k .before .before in
-    let a = o .before .before .before .before .args in
-    ap (λ (n : ℕ). (n, now (a .out))) (c .code-of .ensures)
-    ∙ sym (refused (now (a .file)) (a .r) (now (a .out)) (o .before .if1 .left) (sym (o .record-outcome .ensures .0) ∙ k .why .given .1))
+    ap (λ (n : ℕ). (n, now (o .before .before .before .before .args .out))) (c .code-of .ensures)
+    ∙ sym (refused _ _ _ (o .before .if1 .left) (sym (o .record-outcome .ensures .0) ∙ k .why .given .1))
 
 pub probe-record-spec : {M : Type 1} → statement M
 probe-record-spec =

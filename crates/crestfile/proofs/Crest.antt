@@ -10,8 +10,9 @@ use lib.Dec.{eqb}
 use lib.ListN.{length}
 use Rattle.model.specs.declared.Outcome.the-variants.{Done}
 use Rattle.model.specs.Records.{blockCount, blockOf, usedBytes, recordBytes}
+use Rattle.model.specs.Crest.{checkOf, fileCrest}
 use Rattle.model.specs.Refusals.{forEach, verdict}
-use Rattle.model.specs.Acceptance.{lengthFits, sumsAgree, fieldsFit, sumRules, fieldRules, recordsRules, blocksRules, crestRules, checked}
+use Rattle.model.specs.Acceptance.{lengthFits, sumsAgree, fieldsFit, sumRules, fieldRules, recordsRules, blocksRules, crestRules}
 use Rattle.model.specs.Writer.{blocksNeeded, countFits}
 use Rattle.model.proofs.Verdict.{AllHold, more, done→all, all→done}
 use Rattle.records.proofs.Tests.{eq-test, le-test, both-tests, either-test}
@@ -83,15 +84,15 @@ passed→blocks file p =
     (each→all (fieldRules file) (blockCount file) 0 (λ b l. rw zero-add (one-holds (p .fields b l)))))
 
 -- a file is accepted exactly when its blocks and its records are
-accepted→both : (file : List ℕ) → checked file ≡ Done → AllHold (blocksRules file) × AllHold (recordsRules (recordBytes file))
-unfolding checked crestRules
+accepted→both : (file : List ℕ) → checkOf (fileCrest file) ≡ Done → AllHold (blocksRules file) × AllHold (recordsRules (recordBytes file))
+unfolding crestRules
 accepted→both file e = append-all (blocksRules file) (done→all (crestRules file) e)
 
-both→accepted : (file : List ℕ) → AllHold (blocksRules file) → AllHold (recordsRules (recordBytes file)) → checked file ≡ Done
-unfolding checked crestRules
+both→accepted : (file : List ℕ) → AllHold (blocksRules file) → AllHold (recordsRules (recordBytes file)) → checkOf (fileCrest file) ≡ Done
+unfolding crestRules
 both→accepted file a b = all→done (all-append a b)
 
-pub accepted→blocks : (file : List ℕ) → checked file ≡ Done → verdict (blocksRules file) ≡ Done
+pub accepted→blocks : (file : List ℕ) → checkOf (fileCrest file) ≡ Done → verdict (blocksRules file) ≡ Done
 accepted→blocks file e = all→done (accepted→both file e .0)
 
 -- ---- rows and rules
@@ -103,7 +104,7 @@ pub crest-records : {file records : List ℕ} → Crest file records → recordB
 unfolding recordBytes
 crest-records {file} c = ap (λ n. usedBytes n file) (crest-blocks c) ∙ used-bytes (c .row)
 
-pub crest→accepted : {file records : List ℕ} → Crest file records → AllHold (recordsRules records) → checked file ≡ Done
+pub crest→accepted : {file records : List ℕ} → Crest file records → AllHold (recordsRules records) → checkOf (fileCrest file) ≡ Done
 crest→accepted {file} c a =
     both→accepted file
     (passed→blocks file (record {
@@ -140,7 +141,7 @@ blocks→crest file e =
         let c : Crest file records = record { blocks = blockCount file; some = sized .some; atMost = sized .atMost; row = row } in
         rw (crest-records c) c
 
-pub accepted→crest : (file : List ℕ) → checked file ≡ Done → Crest file (recordBytes file) × AllHold (recordsRules (recordBytes file))
+pub accepted→crest : (file : List ℕ) → checkOf (fileCrest file) ≡ Done → Crest file (recordBytes file) × AllHold (recordsRules (recordBytes file))
 accepted→crest file e = (blocks→crest file (accepted→blocks file e), accepted→both file e .1)
 
 -- ---- the number of records

@@ -8,8 +8,9 @@ use lib.ListN.{length, take, drop, length-append, length-take, take-append-drop}
 use lib.Seq.{length-take-le}
 use Rattle.model.specs.declared.Outcome.the-variants.{Done}
 use Rattle.model.specs.Records.{part, recordBytes, recordStart, countOf, recordOf, usedIn}
+use Rattle.model.specs.Crest.{checkOf, fileCrest}
 use Rattle.model.specs.Refusals.{verdict}
-use Rattle.model.specs.Acceptance.{blocksRules, checked}
+use Rattle.model.specs.Acceptance.{blocksRules}
 use Rattle.blocks.proofs.Parts.{length-part}
 use Rattle.crestfile.proofs.Seams.{part-before, part-after}
 use Rattle.crestfile.proofs.Blocks.{Blocks, last, next, last-in-use, file-length, records-count}
@@ -75,5 +76,5 @@ record-within file r e h =
     (row-part (c .row) r i, k, length-part file (recordStart r) 32 k)
 
 -- "The reader hands back a record as that part of the lent bytes": the part of the file is the record, and lies in the file.
-pub record-part : (file : List ℕ) (r : ℕ) → checked file ≡ Done → r < countOf (recordBytes file) → (part file (recordStart r) 32 ≡ recordOf (recordBytes file) r) × (recordStart r + 32 ≤ length file) × (length (part file (recordStart r) 32) ≡ 32)
+pub record-part : (file : List ℕ) (r : ℕ) → checkOf (fileCrest file) ≡ Done → r < countOf (recordBytes file) → (part file (recordStart r) 32 ≡ recordOf (recordBytes file) r) × (recordStart r + 32 ≤ length file) × (length (part file (recordStart r) 32) ≡ 32)
 record-part file r e h = record-within file r (accepted→blocks file e) h

@@ -27,7 +27,7 @@ use Rattle.model.specs.declared.Reading.{Reading}
 use Rattle.model.specs.declared.ReadingAnswer.{ReadingAnswer}
 use Rattle.model.specs.declared.ReadingAnswer.the-variants.{PlanePoint as AnswerPoint, LinePlace as AnswerPlace, Refused as AnswerRefused}
 use Rattle.model.specs.Refusals.{Reason, lastNumber, askedOutOfRange, runFull, wrongRoom, Rule, number, refusal, rule₀, verdict}
-use Rattle.model.specs.Acceptance.{checked, crestRules}
+use Rattle.model.specs.Acceptance.{crestRules}
 use Rattle.model.specs.Crest.{Crest, checkOf, fileCrest, SoundCrest}
 use Rattle.model.specs.Records.{byteAt, recordBytes, countOf}
 use Rattle.model.specs.Writer.{writerRules, writerOutcome, roomAfter, written}
@@ -54,8 +54,7 @@ use Rattle.demands.proofs.Lent.{Lending, Within, roomAfterAll, onRun, l
 pub any-crest : (c : Crest) → (checkOf c ≡ Done × AllHold (c .rules)) ⊎ ((why : Refusal) × (checkOf c ≡ Refused why) × Cause (c .rules) why)
 any-crest c = order-outcome (c .rules)
 
-pub any-bytes : (file : List ℕ) → (checked file ≡ Done × AllHold (crestRules file)) ⊎ ((why : Refusal) × (checked file ≡ Refused why) × Cause (crestRules file) why)
-unfolding checked
+pub any-bytes : (file : List ℕ) → (checkOf (fileCrest file) ≡ Done × AllHold (crestRules file)) ⊎ ((why : Refusal) × (checkOf (fileCrest file) ≡ Refused why) × Cause (crestRules file) why)
 any-bytes file = any-crest (fileCrest file)
 
 -- whatever is refused has a number of the table
@@ -120,8 +119,8 @@ module _ (c : Crest) (why : Refusal) (refused : checkOf c ≡ Refused why) where
   pub refused-crest-reading : (r : Reading) → answerTo c r ≡ AnswerRefused why
   refused-crest-reading r = told-refused (reading-tells r (c .elements)) (c .rules) refused
 
-pub refused-file-record : (file : List ℕ) (why : Refusal) → checked file ≡ Refused why → (r : ℕ) → readerOutcome file r ≡ Refused why
-unfolding readerOutcome checked
+pub refused-file-record : (file : List ℕ) (why : Refusal) → checkOf (fileCrest file) ≡ Refused why → (r : ℕ) → readerOutcome file r ≡ Refused why
+unfolding readerOutcome
 refused-file-record file why e r = refused-before (crestRules file) _ e
 
 -- ---- what a reading came to, whatever question and crest it was

@@ -15,9 +15,9 @@ use Rattle.model.specs.declared.Outcome.the-variants.{Done}
 use Rattle.model.specs.Records.{byteAt, put, recordBytes, countOf, recordOf}
 use Rattle.model.specs.Refusals.{verdict, orRefused}
 use Rattle.model.specs.Bound.{Bounded}
-use Rattle.model.specs.Acceptance.{sumsAgree, checked, crestRules, crestElements}
+use Rattle.model.specs.Acceptance.{sumsAgree, crestRules, crestElements}
 use Rattle.model.specs.Accepted.{Accepted, AlignmentAccepted}
-use Rattle.model.specs.Crest.{Crest, checkOf, SoundCrest}
+use Rattle.model.specs.Crest.{Crest, checkOf, SoundCrest, fileCrest}
 use Rattle.model.specs.Stations.{total, atStation}
 use Rattle.model.specs.Writer.{fileOf, writerOutcome, roomAfter, written}
 use Rattle.model.specs.Answers.{readerOutcome, spanIf, readerSpan, readerPart}
@@ -50,7 +50,7 @@ crest-bounded-at c sound e s h = bounded-at (c .elements) (sound .accepted e) s 
 -- ---- "A crest file written from accepted records reads back as those records"
 
 -- where the writer refuses nothing, what it leaves in the room starts with a file that is accepted and holds the records given
-pub written-reads-back : (records : List ℕ) (room : ℕ) → writerOutcome records room ≡ Done → (checked (fileOf records) ≡ Done) × (recordBytes (fileOf records) ≡ records)
+pub written-reads-back : (records : List ℕ) (room : ℕ) → writerOutcome records room ≡ Done → (checkOf (fileCrest (fileOf records)) ≡ Done) × (recordBytes (fileOf records) ≡ records)
 written-reads-back records room e = let w = writing.written-then-read records (writer-done records room .0 e .0) in (w .0, w .1)
 
 pub written-file : (records room : List ℕ) → writerOutcome records (length room) ≡ Done → written records room ≡ put room 0 (fileOf records)
@@ -72,7 +72,7 @@ module _ (records room : List ℕ) (done : writerOutcome records (length room) �
 
   -- and the reader hands back each record given
   pub record-reads-back : (r : ℕ) → r < countOf records → (readerOutcome (fileOf records) r ≡ Done) × (readerPart (fileOf records) r ≡ recordOf records r)
-  unfolding readerOutcome readerPart readerSpan spanIf checked verdict orRefused
+  unfolding readerOutcome readerPart readerSpan spanIf verdict orRefused
   record-reads-back r h =
       let (accepted, same) = written-reads-back records (length room) done in
       let file = fileOf records in
@@ -82,22 +82,22 @@ module _ (records room : List ℕ) (done : writerOutcome records (length room) �
 -- ---- "and the file of a crest is the one file possible"
 
 -- two accepted files with the same records are the same bytes
-pub one-file : (file other : List ℕ) → AllBytes file → AllBytes other → checked file ≡ Done → checked other ≡ Done → recordBytes file ≡ recordBytes other → file ≡ other
+pub one-file : (file other : List ℕ) → AllBytes file → AllBytes other → checkOf (fileCrest file) ≡ Done → checkOf (fileCrest other) ≡ Done → recordBytes file ≡ recordBytes other → file ≡ other
 one-file = reading.one-file
 
 -- "A crest alignment is 1 to 60 elements read from blocks.": two accepted files with the same elements are the same bytes, since an accepted file is the file of its elements
-pub file-of-its-elements : (file : List ℕ) → AllBytes file → checked file ≡ Done → fileOf (elementsBytes (crestElements file)) ≡ file
+pub file-of-its-elements : (file : List ℕ) → AllBytes file → checkOf (fileCrest file) ≡ Done → fileOf (elementsBytes (crestElements file)) ≡ file
 file-of-its-elements file b e = ap fileOf (records-of-elements file b e) ∙ reading.read-then-written file b e .1
 
-pub one-file-per-crest : (file other : List ℕ) → AllBytes file → AllBytes other → checked file ≡ Done → checked other ≡ Done → crestElements file ≡ crestElements other → file ≡ other
+pub one-file-per-crest : (file other : List ℕ) → AllBytes file → AllBytes other → checkOf (fileCrest file) ≡ Done → checkOf (fileCrest other) ≡ Done → crestElements file ≡ crestElements other → file ≡ other
 one-file-per-crest file other b₁ b₂ e₁ e₂ same =
     sym (file-of-its-elements file b₁ e₁) ∙ ap (λ es. fileOf (elementsBytes es)) same ∙ file-of-its-elements other b₂ e₂
 
 -- an accepted file is the file of its records, which the writer leaves in any room that is long enough
-pub file-of-its-records : (file : List ℕ) → AllBytes file → checked file ≡ Done → fileOf (recordBytes file) ≡ file
+pub file-of-its-records : (file : List ℕ) → AllBytes file → checkOf (fileCrest file) ≡ Done → fileOf (recordBytes file) ≡ file
 file-of-its-records file bytes e = reading.read-then-written file bytes e .1
 
-pub written-again : (file room : List ℕ) → AllBytes file → checked file ≡ Done → length file ≤ length room → written (recordBytes file) room ≡ put room 0 file
+pub written-again : (file room : List ℕ) → AllBytes file → checkOf (fileCrest file) ≡ Done → length file ≤ length room → written (recordBytes file) room ≡ put room 0 file
 written-again = reading.written-again
 
 -- What the writer makes of bytes is bytes, and of one changed byte in a block A or B tells.

@@ -16,9 +16,10 @@ use Rattle.model.specs.declared.KindByte.the-variants.{Damaged, Later}
 use Rattle.model.specs.declared.Element.{Element}
 use Rattle.model.specs.declared.Outcome.the-variants.{Done}
 use Rattle.model.specs.Kinds.{decide}
+use Rattle.model.specs.Crest.{checkOf, fileCrest}
 use Rattle.model.specs.Records.{part, u32Bytes, recordBytes, recordStart, countOf, recordOf, i32Bytes}
 use Rattle.model.specs.Refusals.{Rule, forEach}
-use Rattle.model.specs.Acceptance.{isDamaged, isLater, kindIn, elementOf, reservedZero, recordRules, elementAt, eachRecord, recordsRules, checked, elementsFrom, elementsOf, crestElements}
+use Rattle.model.specs.Acceptance.{isDamaged, isLater, kindIn, elementOf, reservedZero, recordRules, elementAt, eachRecord, recordsRules, elementsFrom, elementsOf, crestElements}
 use Rattle.model.proofs.Verdict.{AllHold, more}
 use Rattle.blocks.proofs.Bytes.{AllBytes, part-bytes}
 use Rattle.blocks.proofs.BlockRules.{part-zero}
@@ -107,7 +108,7 @@ each-same (suc n) r bytes h =
     rw (h r (omega arith), each-same n (r + 1) bytes (λ k l. h k (omega arith)), long, after, take-add 32 (32 * n) (drop (32 * r) bytes), drop-drop 32 (32 * r) bytes)
 
 -- The records of an accepted file are those of its elements.
-pub records-of-elements : (file : List ℕ) → AllBytes file → checked file ≡ Done → elementsBytes (crestElements file) ≡ recordBytes file
+pub records-of-elements : (file : List ℕ) → AllBytes file → checkOf (fileCrest file) ≡ Done → elementsBytes (crestElements file) ≡ recordBytes file
 unfolding crestElements elementsOf recordsRules eachRecord elementAt
 records-of-elements file b e =
     let (crest, rules) = accepted→crest file e in

@@ -6,8 +6,8 @@ use native.Mathlib.Omega.{arith}
 use lib.ListN.{length}
 use Rattle.model.specs.declared.Outcome.the-variants.{Done}
 use Rattle.model.specs.Records.{put, recordBytes}
+use Rattle.model.specs.Crest.{checkOf, fileCrest}
 use Rattle.model.specs.Refusals.{verdict}
-use Rattle.model.specs.Acceptance.{checked}
 use Rattle.model.specs.Writer.{blocksFrom, fileOf, roomAfter, written}
 use Rattle.model.proofs.Verdict.{more, all→done}
 use Rattle.blocks.proofs.Bytes.{AllBytes}
@@ -21,13 +21,13 @@ unfolding fileOf
 crest-file {records = records} bytes c = ap (λ n. blocksFrom n 0 records) (crest-count c .1) ∙ rewritten (c .row) bytes
 
 -- The writer's rules refuse nothing of an accepted file's records, and the file of these records is that file.
-pub read-then-written : (file : List ℕ) → AllBytes file → checked file ≡ Done → (verdict (rulesButRoom (recordBytes file)) ≡ Done) × (fileOf (recordBytes file) ≡ file)
+pub read-then-written : (file : List ℕ) → AllBytes file → checkOf (fileCrest file) ≡ Done → (verdict (rulesButRoom (recordBytes file)) ≡ Done) × (fileOf (recordBytes file) ≡ file)
 read-then-written file bytes e =
     let (c, a) = accepted→crest file e in
     (all→done (more (crest-count c .0) a), crest-file bytes c)
 
 -- So the writer, given an accepted file's records and room for the file, leaves the file in it.
-pub written-again : (file room : List ℕ) → AllBytes file → checked file ≡ Done → length file ≤ length room → written (recordBytes file) room ≡ put room 0 file
+pub written-again : (file room : List ℕ) → AllBytes file → checkOf (fileCrest file) ≡ Done → length file ≤ length room → written (recordBytes file) room ≡ put room 0 file
 unfolding written roomAfter
 written-again file room bytes e enough =
     let (rules, same) = read-then-written file bytes e in
@@ -36,6 +36,6 @@ written-again file room bytes e enough =
     rw (done, same)
 
 -- The file of a crest is the one file possible.
-pub one-file : (file other : List ℕ) → AllBytes file → AllBytes other → checked file ≡ Done → checked other ≡ Done → recordBytes file ≡ recordBytes other → file ≡ other
+pub one-file : (file other : List ℕ) → AllBytes file → AllBytes other → checkOf (fileCrest file) ≡ Done → checkOf (fileCrest other) ≡ Done → recordBytes file ≡ recordBytes other → file ≡ other
 one-file file other b₁ b₂ e₁ e₂ same =
     sym (read-then-written file b₁ e₁ .1) ∙ ap fileOf same ∙ read-then-written other b₂ e₂ .1

@@ -25,7 +25,7 @@ use Rattle.model.specs.declared.ReadingAnswer.the-variants.{Refused as AnswerRe
 use Rattle.model.specs.declared.Run.{Run}
 use Rattle.model.specs.Refusals.{Reason, byteCount, checksum, blockField, damagedRecord, laterKind, fieldOutOfRange, notUnit, gap, kink, outsideFrame, askedOutOfRange, runFull, recordCount, wrongRoom, Rule, number, refusal, rule, rule₀, Gives, verdict, forEach}
 use Rattle.model.specs.Records.{blockSize, blockCount, blockOf, recordBytes, countOf, recordOf}
-use Rattle.model.specs.Acceptance.{inFrame, isUnit, recordRules, joinRules, elementAt, recordsRules, lengthFits, sumsAgree, fieldsFit, sumRules, fieldRules, blocksRules, crestRules, checked}
+use Rattle.model.specs.Acceptance.{inFrame, isUnit, recordRules, joinRules, elementAt, recordsRules, lengthFits, sumsAgree, fieldsFit, sumRules, fieldRules, blocksRules, crestRules}
 use Rattle.model.specs.Crest.{Crest, checkOf, fileCrest, isOwn}
 use Rattle.model.specs.Stations.{isStation}
 use Rattle.model.specs.Writer.{countFits, blocksNeeded, writerRules, writerOutcome}
@@ -76,15 +76,15 @@ module _ (file : List ℕ) where
   blocks-lack h = lacks-rule byteCount (omega arith) (lacks-++ (sums-lack (omega arith)) (fields-lack (omega arith)))
 
   -- "byte count not 512, 1024, 1536 or 2048"
-  pub check-refused-1 : (checked file ≡ Refused (refusal byteCount 0)) ↔ (lengthFits (length file) ≡ false)
-  unfolding checked crestRules blocksRules number
+  pub check-refused-1 : (checkOf (fileCrest file) ≡ Refused (refusal byteCount 0)) ↔ (lengthFits (length file) ≡ false)
+  unfolding crestRules blocksRules number
   check-refused-1 =
       first-given (rule₀ byteCount (lengthFits (length file))) ((sums ++ fields) ++ records) (lacks-++ (lacks-++ (sums-lack (omega arith)) (fields-lack (omega arith))) (records-lack (recordBytes file) (omega arith)))
 
   -- "a block's A or B is wrong", with "block for 2, 3"
-  pub check-refused-2 : (b : ℕ) → (checked file ≡ Refused (refusal checksum b)) ↔
+  pub check-refused-2 : (b : ℕ) → (checkOf (fileCrest file) ≡ Refused (refusal checksum b)) ↔
       ((lengthFits (length file) ≡ true) × (b < blockCount file) × ((k : ℕ) → k < b → sumsAgree (blockOf file k) ≡ true) × (sumsAgree (blockOf file b) ≡ false))
-  unfolding checked crestRules blocksRules sumRules number refusal
+  unfolding crestRules blocksRules sumRules number refusal
   check-refused-2 b =
       let before = rule₀ byteCount (lengthFits (length file)) ∷ [] in
       let w = refusal checksum b in
@@ -96,10 +96,10 @@ module _ (file : List ℕ) where
       )
 
   -- "block number, use count, edition, or a byte that must be zero outside used records"
-  pub check-refused-3 : (b : ℕ) → (checked file ≡ Refused (refusal blockField b)) ↔
+  pub check-refused-3 : (b : ℕ) → (checkOf (fileCrest file) ≡ Refused (refusal blockField b)) ↔
       ((lengthFits (length file) ≡ true) × ((k : ℕ) → k < blockCount file → sumsAgree (blockOf file k) ≡ true)
       × (b < blockCount file) × ((k : ℕ) → k < b → fieldsFit (blockCount file) k (blockOf file k) ≡ true) × (fieldsFit (blockCount file) b (blockOf file b) ≡ false))
-  unfolding checked crestRules blocksRules sumRules fieldRules number refusal
+  unfolding crestRules blocksRules sumRules fieldRules number refusal
   check-refused-3 b =
       let before = rule₀ byteCount (lengthFits (length file)) ∷ sums in
       let w = refusal blockField b in
@@ -122,43 +122,43 @@ module _ (file : List ℕ) where
 -- "record, counted from 0 over all blocks as every record number is, for 4 to 7 in records; earlier record for 8, 9": of a file after 1 to 3
 module _ (file : List ℕ) (r : ℕ) where
   check-at-record : (why : Reason) {P : Type 0} → 4 ≤ number why → number why ≤ 7 → (verdict (recordRules (recordOf (recordBytes file) r) r) ≡ Refused (refusal why r)) ↔ P →
-      (checked file ≡ Refused (refusal why r)) ↔ (RecordReached (blocksRules file) (recordBytes file) r × P)
-  unfolding checked crestRules
+      (checkOf (fileCrest file) ≡ Refused (refusal why r)) ↔ (RecordReached (blocksRules file) (recordBytes file) r × P)
+  unfolding crestRules
   check-at-record why low high gives = rw append-nil at (given-at-record (blocksRules file) [] (recordBytes file) why r (blocks-lack file low) empty high gives)
 
   check-at-join : (why : Reason) {P : Type 0} → 8 ≤ number why → (verdict (joinRules (elementAt (recordBytes file) r) (elementAt (recordBytes file) (r + 1)) r) ≡ Refused (refusal why r)) ↔ P →
-      (checked file ≡ Refused (refusal why r)) ↔ (JoinReached (blocksRules file) (recordBytes file) r × P)
-  unfolding checked crestRules
+      (checkOf (fileCrest file) ≡ Refused (refusal why r)) ↔ (JoinReached (blocksRules file) (recordBytes file) r × P)
+  unfolding crestRules
   check-at-join why high gives = rw append-nil at (given-at-join (blocksRules file) [] (recordBytes file) why r (blocks-lack file (omega arith)) empty high gives)
 
   -- "damaged kind, or a nonzero byte 1 to 3 or 28 to 31 of a used record"
-  pub check-refused-4 : (checked file ≡ Refused (refusal damagedRecord r)) ↔ (RecordReached (blocksRules file) (recordBytes file) r × RecordGives4 (recordOf (recordBytes file) r))
+  pub check-refused-4 : (checkOf (fileCrest file) ≡ Refused (refusal damagedRecord r)) ↔ (RecordReached (blocksRules file) (recordBytes file) r × RecordGives4 (recordOf (recordBytes file) r))
   unfolding number
   check-refused-4 = check-at-record damagedRecord (omega arith) (omega arith) (record-gives-4 (recordOf (recordBytes file) r) r)
 
   -- "kind 5 to 15"
-  pub check-refused-5 : (checked file ≡ Refused (refusal laterKind r)) ↔ (RecordReached (blocksRules file) (recordBytes file) r × RecordGives5 (recordOf (recordBytes file) r))
+  pub check-refused-5 : (checkOf (fileCrest file) ≡ Refused (refusal laterKind r)) ↔ (RecordReached (blocksRules file) (recordBytes file) r × RecordGives5 (recordOf (recordBytes file) r))
   unfolding number
   check-refused-5 = check-at-record laterKind (omega arith) (omega arith) (record-gives-5 (recordOf (recordBytes file) r) r)
 
   -- "length, radius, x or y out of range"
-  pub check-refused-6 : (checked file ≡ Refused (refusal fieldOutOfRange r)) ↔ (RecordReached (blocksRules file) (recordBytes file) r × RecordGives6 (recordOf (recordBytes file) r))
+  pub check-refused-6 : (checkOf (fileCrest file) ≡ Refused (refusal fieldOutOfRange r)) ↔ (RecordReached (blocksRules file) (recordBytes file) r × RecordGives6 (recordOf (recordBytes file) r))
   unfolding number
   check-refused-6 = check-at-record fieldOutOfRange (omega arith) (omega arith) (record-gives-6 (recordOf (recordBytes file) r) r)
 
   -- "direction not a unit (record ..)"
-  pub check-refused-7 : (checked file ≡ Refused (refusal notUnit r)) ↔ (RecordReached (blocksRules file) (recordBytes file) r × RecordGives7 (recordOf (recordBytes file) r))
+  pub check-refused-7 : (checkOf (fileCrest file) ≡ Refused (refusal notUnit r)) ↔ (RecordReached (blocksRules file) (recordBytes file) r × RecordGives7 (recordOf (recordBytes file) r))
   unfolding number
   check-refused-7 = check-at-record notUnit (omega arith) (omega arith) (record-gives-7 (recordOf (recordBytes file) r) r)
 
   -- "gap .. at a join"
-  pub check-refused-8 : (checked file ≡ Refused (refusal gap r))
+  pub check-refused-8 : (checkOf (fileCrest file) ≡ Refused (refusal gap r))
       ↔ (JoinReached (blocksRules file) (recordBytes file) r × JoinGives8 (elementAt (recordBytes file) r) (elementAt (recordBytes file) (r + 1)))
   unfolding number
   check-refused-8 = check-at-join gap (omega arith) (join-gives-8 _ _ r)
 
   -- "kink at a join"
-  pub check-refused-9 : (checked file ≡ Refused (refusal kink r))
+  pub check-refused-9 : (checkOf (fileCrest file) ≡ Refused (refusal kink r))
       ↔ (JoinReached (blocksRules file) (recordBytes file) r × JoinGives9 (elementAt (recordBytes file) r) (elementAt (recordBytes file) (r + 1)))
   unfolding number
   check-refused-9 = check-at-join kink (omega arith) (join-gives-9 _ _ r)
@@ -209,8 +209,8 @@ module _ (c : Crest) (own : Gives isOwn (c .rules)) where
       ))
 
 -- ".. record number out of range": the reader of a file
-pub record-refused-15 : (file : List ℕ) (r : ℕ) → (readerOutcome file r ≡ Refused (refusal askedOutOfRange 0)) ↔ ((checked file ≡ Done) × (countOf (recordBytes file) ≤ r))
-unfolding readerOutcome checked number isOwn
+pub record-refused-15 : (file : List ℕ) (r : ℕ) → (readerOutcome file r ≡ Refused (refusal askedOutOfRange 0)) ↔ ((checkOf (fileCrest file) ≡ Done) × (countOf (recordBytes file) ≤ r))
+unfolding readerOutcome number isOwn
 record-refused-15 file r =
     let n = countOf (recordBytes file) in
     Iff·trans (next-after-crest (rule₀ askedOutOfRange (ltb r n)) [] empty (fileCrest file) (file-own file) refl) (Iff·and Iff·rfl (ltb-false r n, le-ltb r n))

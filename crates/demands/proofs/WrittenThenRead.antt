@@ -8,8 +8,8 @@ use native.Mathlib.Omega.{arith}
 use lib.ListN.{length}
 use Rattle.model.specs.declared.Outcome.the-variants.{Done}
 use Rattle.model.specs.Records.{recordBytes, countOf}
+use Rattle.model.specs.Crest.{checkOf, fileCrest}
 use Rattle.model.specs.Refusals.{verdict}
-use Rattle.model.specs.Acceptance.{checked}
 use Rattle.model.specs.Writer.{blocksNeeded, fileOf, countFits}
 use Rattle.model.proofs.Verdict.{AllHold, more, done→all}
 use Rattle.crestfile.proofs.WriterRules.{rulesButRoom}
@@ -29,10 +29,10 @@ file-crest records h =
     }
 
 -- Where the writer's rules on its records refuse nothing, the file of the records is accepted, holds these records, and is as long as the blocks needed.
-pub written-then-read : (records : List ℕ) → verdict (rulesButRoom records) ≡ Done → (checked (fileOf records) ≡ Done) × (recordBytes (fileOf records) ≡ records) × (length (fileOf records) ≡ 512 * blocksNeeded records)
+pub written-then-read : (records : List ℕ) → verdict (rulesButRoom records) ≡ Done → (checkOf (fileCrest (fileOf records)) ≡ Done) × (recordBytes (fileOf records) ≡ records) × (length (fileOf records) ≡ 512 * blocksNeeded records)
 written-then-read records e = go (done→all (rulesButRoom records) e)
   where
-    go : AllHold (rulesButRoom records) → (checked (fileOf records) ≡ Done) × (recordBytes (fileOf records) ≡ records) × (length (fileOf records) ≡ 512 * blocksNeeded records)
+    go : AllHold (rulesButRoom records) → (checkOf (fileCrest (fileOf records)) ≡ Done) × (recordBytes (fileOf records) ≡ records) × (length (fileOf records) ≡ 512 * blocksNeeded records)
     go (more h a) =
         let c = file-crest records h in
         (crest→accepted c a, crest-records c, rw (crest-count c .1) (file-length (c .row)))

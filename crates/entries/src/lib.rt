@@ -20,9 +20,8 @@ use sources::no_amendment;
 ghost use mathlib.Core.List.{[]};
 ghost use mathlib.Core.Path.{_≡_};
 ghost use lib.ListN.{length};
-ghost use Rattle.model.specs.Acceptance.{checked};
 ghost use Rattle.model.specs.Writer.{writerOutcome, written};
-ghost use Rattle.model.specs.Crest.{fileCrest};
+ghost use Rattle.model.specs.Crest.{fileCrest, checkOf};
 ghost use Rattle.model.specs.Answers.{paperIf, paperOfOutcome, paperAfter, askedPaper, readerOutcome, stationQuestion, placed, paperOfPlaced, pointQuestion, located, paperOfLocated, placeQuestion, inverse as inverseIn, paperOfInverse, moveQuestion, stakeOut, paperOfMove};
 ghost use Rattle.model.specs.Readings.{readingQuestion, answerTo, valueCount, paperOfReading, displayOf};
 ghost use Rattle.model.specs.Run.{notedPaper};
@@ -37,8 +36,8 @@ pub struct NotedReading {
 
 // The check of a file.
 pub fn check(file: &[u8]) -> Outcome
-    ensures { λ o. ⌜ o ≡ checked (now (file .entry)) ⌝ }
-    ensures paper { λ o. ⌜ paperOfOutcome o ≡ paperIf (checked (now (file .entry))) [] ⌝ }
+    ensures { λ o. ⌜ o ≡ checkOf (fileCrest (now (file .entry))) ⌝ }
+    ensures paper { λ o. ⌜ paperOfOutcome o ≡ paperIf (checkOf (fileCrest (now (file .entry)))) [] ⌝ }
 {
     alignment::check::check(file, no_amendment(file), Form::File)
 }

@@ -17,9 +17,9 @@ use Rattle.model.specs.declared.Located.the-variants.{At, Refused as LocatedRef
 use Rattle.model.specs.declared.ReadingAnswer.the-variants.{Refused as AnswerRefused}
 use Rattle.model.specs.declared.Run.{Run}
 use Rattle.model.specs.Rounding.{ONE}
-use Rattle.model.specs.Refusals.{refusal, beforeStart}
-use Rattle.model.specs.Acceptance.{crestRules, checked, crestElements}
-use Rattle.model.specs.Crest.{fileCrest}
+use Rattle.model.specs.Refusals.{refusal, beforeStart, verdict}
+use Rattle.model.specs.Acceptance.{crestRules, crestElements}
+use Rattle.model.specs.Crest.{fileCrest, checkOf}
 use Rattle.model.specs.Writer.{written}
 use Rattle.model.specs.Stations.{total, D}
 use Rattle.model.specs.Judged.{judged}
@@ -36,11 +36,11 @@ short = crest 1 10 (pos 0)
 
 -- ---- "a program that refuses everything (the table's "exactly when")"
 
-pub refuses-all-files : (f : List ℕ → Outcome) → ((file : List ℕ) → (why : Refusal) × (f file ≡ Refused why)) → ((file : List ℕ) → f file ≡ checked file) → ⊥
-unfolding checked K
+pub refuses-all-files : (f : List ℕ → Outcome) → ((file : List ℕ) → (why : Refusal) × (f file ≡ Refused why)) → ((file : List ℕ) → f file ≡ checkOf (fileCrest file)) → ⊥
+unfolding verdict crestRules K
 refuses-all-files f refuses meets =
     let r = refuses K in
-    let accepted : checked K ≡ Done = refl in
+    let accepted : checkOf (fileCrest K) ≡ Done = refl in
     let z : _≡_ {A = ℕ} 0 1 = cc (r .1, meets K, accepted) in
     omega arith
 

@@ -200,11 +200,6 @@ unfoldable pub crestRules : List ℕ → List Rule
 unfolding blocksRules recordsRules recordBytes
 crestRules file = blocksRules file ++ recordsRules (recordBytes file)
 
--- "An alignment is accepted when no refusal of its own bytes applies, here 1 to 9."
-unfoldable pub checked : List ℕ → Outcome
-unfolding verdict crestRules
-checked file = verdict (crestRules file)
-
 -- ---- its elements
 
 -- the elements of n records from r on

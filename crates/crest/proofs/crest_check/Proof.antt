@@ -3,7 +3,6 @@ use mathlib.Core.Path.{sym, ap, _∙_, subst}
 use denote.Ref.{now}
 use borrow.Author.Needs.{needs}
 use Rattle.model.specs.declared.Outcome.{Outcome}
-use Rattle.model.specs.Acceptance.{checked}
 use Rattle.model.specs.Answers.{code, paperOfOutcome}
 use Rattle.model.specs.Calls.{checkCall}
 use Rattle.model.specs.Crest.{fileCrest}
@@ -17,11 +16,10 @@ check-requires : tie.Need-check-requires
 check-requires c κs = search needs
 
 outcome-code-requires : tie.Need-outcome-code-requires
-unfolding checked
 outcome-code-requires c κs = subst (λ (o : Outcome). Small (paperOfOutcome o)) (sym (c .check .ensures .0)) (check-small (fileCrest (now (c .before .before .args .crest))) (file-sound _))
 
 returns : tie.Need-returns
-unfolding checkCall checked
+unfolding checkCall
 returns c = c .outcome-code .ensures ∙ ap (λ (o : Outcome). code (paperOfOutcome o)) (c .before .check .ensures .0)
 
 pub crest-check-spec : {M : Type 1} → statement M

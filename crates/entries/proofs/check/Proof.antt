@@ -1,6 +1,7 @@
 -- `entries::check` meets its contract: a file is one form of a crest.
 use borrow.Author.Needs.{needs}
-use Rattle.model.specs.Acceptance.{crestRules, checked}
+use Rattle.model.specs.Acceptance.{crestRules}
+use Rattle.model.specs.Crest.{}
 use Rattle.sources.specs.Sources.{layoutRules, recordsIn}
 use Rattle.entries.proofs.check.Statement.{statement}
 use Rattle.entries.proofs.check.Tie as tie
@@ -12,7 +13,7 @@ check-requires : tie.Need-check-requires
 check-requires c κs = search needs
 
 returns : tie.Need-returns
-unfolding checked crestRules layoutRules recordsIn
+unfolding crestRules layoutRules recordsIn
 returns c = c .check .ensures
 
 pub check-spec : {M : Type 1} → statement M

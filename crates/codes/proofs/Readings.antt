@@ -1,5 +1,5 @@
 -- A question's refusal is small: it is that of the rules before it, whose places are small, or one without a place. So a reading's is, on a crest of any source.
-use mathlib.Core.List.{List, []}
+use mathlib.Core.List.{List}
 use mathlib.Core.Path.{sym, subst}
 use native.Mathlib.Omega.{arith}
 use Prim.Native.Nat.{ℕ}
@@ -10,14 +10,14 @@ use Rattle.model.specs.declared.Outcome.the-variants.{Done, Refused}
 use Rattle.model.specs.declared.Reading.{Reading}
 use Rattle.model.specs.declared.ReadingAnswer.{ReadingAnswer}
 use Rattle.model.specs.declared.ReadingAnswer.the-variants.{PlanePoint as AnswerPoint, LinePlace as AnswerPlace, Refused as AnswerRefused}
-use Rattle.model.specs.Refusals.{Rule, verdict}
+use Rattle.model.specs.Refusals.{Rule}
 use Rattle.model.specs.Crest.{Crest, SoundCrest}
 use Rattle.model.specs.Answers.{PaperAnswer, paperIf, paperOfOutcome, Question, answerAfter, paperAfter}
 use Rattle.model.specs.Readings.{answerTo, valueCount, paperOfReading}
 use Rattle.model.proofs.Answers.{Bare, none, next, Tells, told-paper, reading-tells}
 use Rattle.crestfile.proofs.Placed.{PlacedOrder, none-placed, rule-placed}
 use Rattle.codes.specs.Codes.{Small}
-use Rattle.codes.proofs.Codes.{SmallOrder, after-small}
+use Rattle.codes.proofs.Codes.{after-small}
 
 -- ---- a question, after the rules that come before its own
 

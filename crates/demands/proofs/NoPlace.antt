@@ -8,8 +8,7 @@ use native.Mathlib.Omega.{arith}
 use lib.IntN.{ℤ}
 use Rattle.model.specs.declared.Point.{Point}
 use Rattle.model.specs.declared.Refusal.{Refusal}
-use Rattle.model.specs.declared.Outcome.{Outcome}
-use Rattle.model.specs.declared.Outcome.the-variants.{Done, Refused}
+use Rattle.model.specs.declared.Outcome.the-variants.{Refused}
 use Rattle.model.specs.declared.Placed.the-variants.{Refused as PlacedRefused}
 use Rattle.model.specs.declared.Located.the-variants.{Refused as LocatedRefused}
 use Rattle.model.specs.declared.Inverse.the-variants.{Refused as InverseRefused}

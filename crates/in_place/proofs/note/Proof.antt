@@ -1,7 +1,7 @@
 -- `in_place::note` meets its contract: a walk of its MIR, by hand. The borrow is opened, the run behind it is copied and passed to
 -- `answers::note_file` with the crest and the reading, the run that comes back is stored, the borrow is closed at it, and the answer is returned.
 -- Assumes nothing.
-use mathlib.Core.Path.{_≡_, refl, ap, _∙_}
+use mathlib.Core.Path.{_≡_, refl, ap}
 use Prim.Native.Nat.{ℕ, zero}
 use mathlib.Core.List.{[], _∷_, List}
 use lib.ListN.{length}

@@ -98,6 +98,11 @@ def paper_text(number, place, *values):
     return f"(paper {number} {place} {listed(map(whole, values))})"
 
 
+def asked_paper(question, held):
+    """The same by the definitions, of a question put to a crest."""
+    return f"askedPaper ({question}) {held}"
+
+
 # ---------------------------------------------------------------------------
 # Tables and chapters
 
@@ -995,15 +1000,15 @@ def judged(rng):
         Table("stations", "ℕ", "judged", stations_, 20),
         Table("residuals", "ℤ", "residualAt", residuals),
         Table("offsets", "ℤ", "offsetAt", offsets),
-        Table("answers", "Located", "locatedOn", answers, 10),
-        Table("file-answers", "Located", f"located {FILE_CREST}", file_answers, 4),
+        Table("answers", "Located", "answerAfter pointQuestion", answers, 10),
+        Table("file-answers", "Located", f"answerAfter pointQuestion {FILE_CREST}", file_answers, 4),
     ]
     uses = (
         *ELEMENT_USES,
         *LOCATED_USES,
         *FILE_CREST_USES,
         "Judged.{judged, residualAt, offsetAt}",
-        "Answers.{locatedOn, located}",
+        "Answers.{answerAfter, pointQuestion, locatedOn, located}",
     )
     return Chapter(8, "Judged", uses, tables, shown(named))
 
@@ -1147,11 +1152,13 @@ def answers(rng):
         s, w = some_place(rng, total)
         answer = crest.inverse(file, s, w)
         file_inverses.append(Case(f"inverse {file_crest(file)} {whole(s)} {whole(w)}", inverse_text(answer)))
-        inverse_papers.append(Case(f"inversePaper {file_crest(file)} {whole(s)} {whole(w)}", paper_text(*answer)))
+        asked = asked_paper(f"placeQuestion {whole(s)} {whole(w)}", file_crest(file))
+        inverse_papers.append(Case(asked, paper_text(*answer)))
         s, _ = some_place(rng, total)
         answer = crest.position_and_direction(file, s)
         placed.append(Case(f"placed {file_crest(file)} {whole(s)}", placed_text(answer)))
-        placed_papers.append(Case(f"placedPaper {file_crest(file)} {whole(s)}", paper_text(*answer)))
+        asked = asked_paper(f"stationQuestion {whole(s)}", file_crest(file))
+        placed_papers.append(Case(asked, paper_text(*answer)))
     seen = set()
     located = [(crest.file_made(records_of(STRAIGHT.alignment.elements)), p) for p in LIMIT_POINTS[::4]]
     for _ in range(30):
@@ -1160,7 +1167,8 @@ def answers(rng):
     for file, p in located:
         answer = crest.station_and_offset(file, *p)
         seen.add(answer.number)
-        located_papers.append(Case(f"locatedPaper {file_crest(file)} {point_text(p)}", paper_text(*answer)))
+        asked = asked_paper(f"pointQuestion {point_text(p)}", file_crest(file))
+        located_papers.append(Case(asked, paper_text(*answer)))
         papers.append(Case(f"paperOfLocated ({located_text(answer)})", paper_text(*answer)))
     assert {0, 11, 12, 13, 14} <= seen, seen
     seen = set()
@@ -1170,24 +1178,24 @@ def answers(rng):
         seen.add(answer.number)
         text = f"{point_text(own)} {point_text(target)} {whole(c)} {whole(s)}"
         moves.append(Case(f"stakeOut {text}", move_text(answer)))
-        move_papers.append(Case(f"movePaper {text}", paper_text(*answer)))
+        move_papers.append(Case(f"paperAfter [] (moveQuestion {text})", paper_text(*answer)))
         papers.append(Case(f"paperOfMove ({move_text(answer)})", paper_text(*answer)))
         room = random_bytes(rng, rng.choice((8, 8, 8, 8, 0, 7, 9, 24)))
         value, after = crest.crest_stake_out(*own, *target, c, s, room)
         calls.append(Case(f"stakeOutCall {text} {spelt(room)}", f"({value}, {spelt(after)})"))
     assert seen == {0, 7, 11}, seen
     tables = [
-        Table("inverses", "Inverse", "inverseOn", inverses, 30),
-        Table("file-inverses", "Inverse", f"inverse {FILE_CREST}", file_inverses, 8),
-        Table("placed-on", "Placed", "placedOn", on_elements, 30),
-        Table("placed", "Placed", f"placed {FILE_CREST}", placed, 8),
-        Table("moves", "Move", "stakeOut", moves),
+        Table("inverses", "Inverse", "answerAfter placeQuestion", inverses, 30),
+        Table("file-inverses", "Inverse", f"answerAfter placeQuestion {FILE_CREST}", file_inverses, 8),
+        Table("placed-on", "Placed", "answerAfter stationQuestion", on_elements, 30),
+        Table("placed", "Placed", f"answerAfter stationQuestion {FILE_CREST}", placed, 8),
+        Table("moves", "Move", "answerAfter moveQuestion", moves),
         Table("move-calls", "ℕ × List ℕ", "stakeOutCall", calls),
         Table("papers", "PaperAnswer", "paperOfPlaced paperOfLocated paperOfInverse paperOfMove", papers),
-        Table("placed-papers", "PaperAnswer", f"placedPaper {FILE_CREST}", placed_papers, 8),
-        Table("located-papers", "PaperAnswer", f"locatedPaper {FILE_CREST}", located_papers, 5),
-        Table("inverse-papers", "PaperAnswer", f"inversePaper {FILE_CREST}", inverse_papers, 8),
-        Table("move-papers", "PaperAnswer", "movePaper", move_papers),
+        Table("placed-papers", "PaperAnswer", f"paperAfter stationQuestion {FILE_CREST}", placed_papers, 8),
+        Table("located-papers", "PaperAnswer", f"paperAfter pointQuestion {FILE_CREST}", located_papers, 5),
+        Table("inverse-papers", "PaperAnswer", f"paperAfter placeQuestion {FILE_CREST}", inverse_papers, 8),
+        Table("move-papers", "PaperAnswer", "paperAfter moveQuestion", move_papers),
     ]
     uses = (
         *ELEMENT_USES,
@@ -1199,7 +1207,8 @@ def answers(rng):
         "declared.Move.the-variants.{By, Refused as MoveRefused}",
         "Answers.{inverseOn, inverse, placedOn, placed, stakeOut}",
         "Answers.{PaperAnswer, paperOfPlaced, paperOfLocated, paperOfInverse, paperOfMove}",
-        "Answers.{placedPaper, locatedPaper, inversePaper, movePaper}",
+        "Answers.{answerAfter, paperAfter, askedPaper}",
+        "Answers.{stationQuestion, pointQuestion, placeQuestion, moveQuestion}",
         "Calls.{stakeOutCall}",
     )
     return Chapter(10, "Answers", uses, tables, (PAPER_FORM, *shown(named)))
@@ -1223,7 +1232,9 @@ ANSWER_USES = (
     f"declared.ReadingAnswer.the-variants.{{{ANSWER_NAMES}}}",
 )
 READING_USES = ("declared.Reading.{Reading}", "declared.Reading.the-variants.{PlanePoint, LinePlace}")
-ASKED = f"answerTo ofBits {FILE_CREST}"  # what a reading on a crest file is computed by
+# What a reading on a crest file is computed by, and the paper's number, place and values of it.
+ASKED = f"answerAfter readingQuestion ofBits {FILE_CREST}"
+PAPER_ASKED = f"paperAfter readingQuestion ofBits {FILE_CREST}"
 
 
 def answer_text(reading, answer):
@@ -1304,7 +1315,7 @@ def readings(rng):
         seen.add(answer.number)
         asked, due = f"{file_crest(file)} {reading_text(reading)}", reading_paper(reading, answer)
         answered.append(Case(f"answerTo {asked}", answer_text(reading, answer)))
-        papers.append(Case(f"readingPaper {asked}", due))
+        papers.append(Case(asked_paper(f"readingQuestion {reading_text(reading)}", file_crest(file)), due))
         of_answers.append(Case(f"paperOfReading (valueCount {reading_text(reading)}) (answerTo {asked})", due))
     assert {0, 10, 11, 13, 14, 15} <= seen <= {0, *OF_READINGS}, seen
     counts, of_any = [], []
@@ -1333,7 +1344,7 @@ def readings(rng):
     tables = [
         Table("wholes", "Whole", "wholeOf ofBits", wholes),
         Table("answers", "ReadingAnswer", ASKED, answered, 5),
-        Table("papers", "PaperAnswer", f"readingPaper ofBits {FILE_CREST}", papers[::2], 5),
+        Table("papers", "PaperAnswer", PAPER_ASKED, papers[::2], 5),
         Table("papers-of", "PaperAnswer", f"paperOfReading valueCount {ASKED}", of_answers[1::2], 5),
         Table("papers-of-any", "PaperAnswer", "paperOfReading valueCount ofBits", of_any),
         Table("value-counts", "ℕ", "valueCount ofBits", counts),
@@ -1345,8 +1356,8 @@ def readings(rng):
         *FILE_CREST_USES,
         "declared.Display.{Display}",
         "lib.Ieee.{ofBits, ofInt, div}",
-        "Answers.{PaperAnswer}",
-        "Readings.{Whole, whole, none, wholeOf, answerTo, valueCount, paperOfReading, readingPaper, displayOf}",
+        "Answers.{PaperAnswer, answerAfter, paperAfter, askedPaper}",
+        "Readings.{Whole, whole, none, wholeOf, readingQuestion, answerTo, valueCount, paperOfReading, displayOf}",
     )
     return Chapter(11, "Readings", uses, tables, (PAPER_FORM,))
 
@@ -1491,7 +1502,8 @@ def run_calls(rng):
         answer, after = crest.take_reading(state, crest.check(file), reading)
         due = f"record {{ answer = {answer_text(reading, answer)}; run = {run_text(after)} }}"
         noted.append(Case(f"noted (answerTo {asked}) {run_text(state)}", due))
-        papers.append(Case(f"notedPaper (readingPaper {asked}) {run_text(state)}", reading_paper(reading, answer)))
+        asked = asked_paper(f"readingQuestion {reading_text(reading)}", file_crest(file))
+        papers.append(Case(f"notedPaper ({asked}) {run_text(state)}", reading_paper(reading, answer)))
         checks.append(Case(f"checkCall {file_crest(file)}", str(crest.crest_check(file))))
     assert {0, 10, 16, 18} <= returned, returned
     return [
@@ -1499,7 +1511,7 @@ def run_calls(rng):
         Table("reading-calls", "ℕ × List ℕ", f"readingCall {ASKED}", read_calls, 5),
         Table("shown-of-readings", "Shown", f"shownOf {ASKED}", shown_[1::3], 5),
         Table("noted", "Noted", f"noted {ASKED}", noted[::2], 5),
-        Table("papers", "PaperAnswer", f"notedPaper readingPaper ofBits {FILE_CREST}", papers[::5], 5),
+        Table("papers", "PaperAnswer", f"notedPaper {PAPER_ASKED}", papers[::5], 5),
         Table("check-calls", "ℕ", f"checkCall {FILE_CREST}", checks[::3], 5),
     ]
 
@@ -1598,8 +1610,8 @@ def run(rng):
         "declared.Run.{Run}",
         "lib.Ieee.{ofBits}",
         "declared.Noted.{Noted}",
-        "Answers.{PaperAnswer}",
-        "Readings.{answerTo, readingPaper}",
+        "Answers.{PaperAnswer, answerAfter, paperAfter, askedPaper}",
+        "Readings.{readingQuestion, answerTo}",
         "Run.{Shown, fresh, isFull, shownOf, counted, acknowledged, noted, notedPaper, runAt, runBytes}",
         "Calls.{readingCall, acknowledgeCall, checkCall}",
         "Histories.{Call, read, acknowledge, afterCalls, bytesAfterCalls, freshBytes, demanded}",
@@ -1744,14 +1756,16 @@ def program(rng):
         Table("reading-lines", "List ℕ", "readingLine", lines),
         Table("last-lines", "List ℕ", "lastLine", lasts),
         Table("readings-of", "List Reading", "readingsOf", read, 20),
-        Table("printed", "List ℕ", f"printed ofBits {FILE_CREST}", printed, 5),
-        Table("full", "List ℕ", f"printFrom ofBits {FILE_CREST}", full, 5),
+        Table("printed", "List ℕ", f"printed {ASKED}", printed, 5),
+        Table("full", "List ℕ", f"printFrom {ASKED}", full, 5),
     ]
     uses = (
         *READING_USES,
         *FILE_CREST_USES,
         "declared.Run.{Run}",
         "lib.Ieee.{ofBits}",
+        "Answers.{answerAfter}",
+        "Readings.{readingQuestion}",
         "Run.{Shown}",
         "Program.{decimal, signed, readingLine, lastLine, readingsOf, printFrom, printed}",
     )
@@ -1780,34 +1794,36 @@ def any_crest(rng):
             s, _ = some_place(rng, one.alignment.total)
             answer = placed_answer(held, s)
             placed.append(Case(f"placed {text} {whole(s)}", placed_text(answer)))
-            papers.append(Case(f"placedPaper {text} {whole(s)}", paper_text(*answer)))
+            papers.append(Case(asked_paper(f"stationQuestion {whole(s)}", text), paper_text(*answer)))
             (p,) = points_for(rng, one.alignment, 1)
             answer = crest.plane_answer(held, *p)
             located.append(Case(f"located {text} {point_text(p)}", located_text(answer)))
-            papers.append(Case(f"locatedPaper {text} {point_text(p)}", paper_text(*answer)))
+            papers.append(Case(asked_paper(f"pointQuestion {point_text(p)}", text), paper_text(*answer)))
             s, w = some_place(rng, one.alignment.total)
             answer = crest.line_answer(held, s, w)
             inverses.append(Case(f"inverse {text} {whole(s)} {whole(w)}", inverse_text(answer)))
-            papers.append(Case(f"inversePaper {text} {whole(s)} {whole(w)}", paper_text(*answer)))
+            papers.append(Case(asked_paper(f"placeQuestion {whole(s)} {whole(w)}", text), paper_text(*answer)))
             reading = some_reading(rng, one.alignment)
             answer = crest.reading_answer(held, reading)
             seen.add(answer.number)
             readings_.append(Case(f"answerTo {text} {reading_text(reading)}", answer_text(reading, answer)))
-            papers.append(Case(f"readingPaper {text} {reading_text(reading)}", reading_paper(reading, answer)))
+            asked = asked_paper(f"readingQuestion {reading_text(reading)}", text)
+            papers.append(Case(asked, reading_paper(reading, answer)))
             answer = crest.reading_answer(one.alignment, reading)
             on_elements.append(Case(f"answerOn {one.name} {reading_text(reading)}", answer_text(reading, answer)))
     assert {0, 10, 15} <= seen and seen & set(OWN), seen
     for _ in range(20):
         file, _ = short_crest(rng)
         checks.append(Case(f"checkOf {file_crest(file)}", outcome_text(outcome_of(crest.check(file)))))
+    questions = "stationQuestion pointQuestion placeQuestion readingQuestion"
     tables = [
         Table("checks", "Outcome", f"verdict {FILE_CREST}", checks, 10),
-        Table("placed", "Placed", "placed", placed, 20),
-        Table("located", "Located", "located", located, 10),
-        Table("inverses", "Inverse", "inverse", inverses, 20),
-        Table("readings", "ReadingAnswer", "answerTo ofBits", readings_, 10),
-        Table("answers-on", "ReadingAnswer", "answerOn ofBits", on_elements, 10),
-        Table("papers", "PaperAnswer", "placedPaper locatedPaper inversePaper readingPaper ofBits", papers, 10),
+        Table("placed", "Placed", "answerAfter stationQuestion", placed, 20),
+        Table("located", "Located", "answerAfter pointQuestion", located, 10),
+        Table("inverses", "Inverse", "answerAfter placeQuestion", inverses, 20),
+        Table("readings", "ReadingAnswer", "answerAfter readingQuestion ofBits", readings_, 10),
+        Table("answers-on", "ReadingAnswer", "answerAfter readingQuestion ofBits", on_elements, 10),
+        Table("papers", "PaperAnswer", f"paperAfter {questions} ofBits", papers, 10),
     ]
     uses = (
         *ELEMENT_USES,
@@ -1821,8 +1837,9 @@ def any_crest(rng):
         "lib.Ieee.{ofBits}",
         f"Refusals.{{Rule, rule, verdict, {', '.join(REASONS[: len(OWN)])}}}",
         "Crest.{Crest, checkOf}",
-        "Answers.{PaperAnswer, placed, placedPaper, located, locatedPaper, inverse, inversePaper}",
-        "Readings.{answerOn, answerTo, readingPaper}",
+        "Answers.{PaperAnswer, answerAfter, paperAfter, askedPaper, placed, located, inverse}",
+        "Answers.{stationQuestion, pointQuestion, placeQuestion}",
+        "Readings.{readingQuestion, answerOn, answerTo}",
     )
     return Chapter(15, "Crest", uses, tables, (PAPER_FORM, CREST_FORM, *shown(named)))
 

@@ -620,7 +620,7 @@ def acceptance(rng):
     # the small files apart from the large ones, so that no declaration grows too large
     small, large = [], []
     for file, verdict in [*((file, None) for file, _ in accepted), *zip(damaged, verdicts)]:
-        case = Case(f"checked {spelt(file)}", outcome_text(verdict))
+        case = Case(f"checkOf {file_crest(file)}", outcome_text(verdict))
         (small if len(file) <= 512 else large).append(case)
     elements = [Case(f"crestElements {spelt(file)}", elements_text(found.elements)) for file, found in accepted]
     kinds = []
@@ -641,8 +641,8 @@ def acceptance(rng):
         parts.append(Case(f"readerPart {spelt(file)} {record}", spelt(file[start:end])))
     tables = [
         Table("kinds", "KindByte", "decide", kinds, 64),
-        Table("files", "Outcome", "checked", small, 10),
-        Table("large-files", "Outcome", "checked", large, 2),
+        Table("files", "Outcome", f"verdict {FILE_CREST}", small, 10),
+        Table("large-files", "Outcome", f"verdict {FILE_CREST}", large, 2),
         Table("elements", "List Element", "crestElements", elements, 8),
         Table("reader", "Outcome", "readerOutcome", outcomes[::2], 8),
         Table("reader-spans", "Span", "readerSpan", spans[1::2], 8),
@@ -654,7 +654,9 @@ def acceptance(rng):
         "declared.KindByte.{KindByte}",
         "declared.KindByte.the-variants.{Damaged, Known, Later}",
         "Kinds.{decide}",
-        "Acceptance.{checked, crestElements}",
+        *FILE_CREST_USES,
+        "Refusals.{verdict}",
+        "Crest.{checkOf}",
         "Answers.{Span, readerOutcome, readerSpan, readerPart}",
     )
     return Chapter(3, "Acceptance", uses, tables)

@@ -24,11 +24,11 @@ use Rattle.codes.specs.Codes.{Small}
 -- ---- orders of refusals
 
 -- what an order of refusals comes to is small
-abbrev pub SmallOrder : List Rule → Type 0
+abbrev SmallOrder : List Rule → Type 0
 SmallOrder rs = Small (paperOfOutcome (verdict rs))
 
 -- an order whose places are at most 60: its numbers are the table's
-pub order-small : (rs : List Rule) → PlacedOrder rs → SmallOrder rs
+order-small : (rs : List Rule) → PlacedOrder rs → SmallOrder rs
 unfolding paperOfOutcome refusal
 order-small rs placed = go (verdict rs) refl
   where

@@ -21,6 +21,6 @@ pub record Movable (m : Move) : Type 0 where
   pub coded : Small (paperOfMove m)
   pub values : {forward left : ℤ} → m ≡ By forward left → SFits w32 forward × SFits w32 left
 
--- two i32, one after the other at any place: 4 is the bytes of an i32, as in `u32Bytes`
+-- two i32, one after the other at any place: 4 is the bytes of an i32, as in `i32Bytes`
 abbrev pub putTwo : List ℕ → ℕ → ℤ → ℤ → List ℕ
 putTwo l at a b = put (put l at (i32Bytes a)) (at + 4) (i32Bytes b)

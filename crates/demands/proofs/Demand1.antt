@@ -268,7 +268,7 @@ stake-out-returns-0 own target c s room =
     )
 
 -- a reading that is refused does not return 0
-pub refused-reading-returns : {a : ReadingAnswer} → Came a → (why : Refusal) → a ≡ AnswerRefused why → code (paperOfReading 0 a) ≡ 0 → ⊥
+refused-reading-returns : {a : ReadingAnswer} → Came a → (why : Refusal) → a ≡ AnswerRefused why → code (paperOfReading 0 a) ≡ 0 → ⊥
 unfolding code paperOfReading
 refused-reading-returns came why e z = omega (arith, came-numbered came why e .0, sym (ap (λ (x : ReadingAnswer). code (paperOfReading 0 x)) e) ∙ z)
 

@@ -56,8 +56,8 @@ given-at-0 {w} (next {r} {rs} h k) e = go (given-at-0 k) (r .holds) e
         sym p ∙ h n
 
 -- a rule with no place
-bare : {why : Reason} {b : Bool} {n : ℕ} {rs : List Rule} → At0 n rs → At0 n (rule₀ why b ∷ rs)
-bare k = next (λ e. refl) k
+placeless : {why : Reason} {b : Bool} {n : ℕ} {rs : List Rule} → At0 n rs → At0 n (rule₀ why b ∷ rs)
+placeless k = next (λ e. refl) k
 
 bare-at-0 : {n : ℕ} {rs : List Rule} → Bare rs → At0 n rs
 bare-at-0 bare-none = none
@@ -78,7 +78,7 @@ pub length-bare : (file : List ℕ) → At0 1 (crestRules file)
 unfolding crestRules blocksRules sumRules fieldRules number
 length-bare file =
     at-0-++
-    (bare
+    (placeless
     (at-0-++
     (lacks-at-0 (lacks-forEach (λ k. lacks-rule checksum (omega arith) empty) (blockCount file) 0))
     (lacks-at-0 (lacks-forEach (λ k. lacks-rule blockField (omega arith) empty) (blockCount file) 0))))
@@ -104,13 +104,13 @@ module _ (c : Crest) (w : Refusal) (k : At0 (w .number) (c .rules)) where
 -- the reader of a file likewise
 pub record-else-0 : (file : List ℕ) (w : Refusal) → At0 (w .number) (crestRules file) → (r : ℕ) → readerOutcome file r ≡ Refused w → w .place ≡ 0
 unfolding readerOutcome
-record-else-0 file w k r e = given-at-0 (at-0-++ k (bare none)) e
+record-else-0 file w k r e = given-at-0 (at-0-++ k (placeless none)) e
 
 -- the writer's 17 and 18
 pub write-else-0 : (records : List ℕ) (room : ℕ) (w : Refusal) → isOwn (w .number) ≡ false → writerOutcome records room ≡ Refused w → w .place ≡ 0
 unfolding writerOutcome writerRules
 write-else-0 records room w h e =
-    let z : At0 (w .number) (writerRules records room) = bare (at-0-++ (lacks-at-0 (lacks-other (records-own records) h)) (bare none)) in
+    let z : At0 (w .number) (writerRules records room) = placeless (at-0-++ (lacks-at-0 (lacks-other (records-own records) h)) (placeless none)) in
     given-at-0 z e
 
 -- a stake-out's 11 and 7: it has no record

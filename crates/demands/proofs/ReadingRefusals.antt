@@ -32,7 +32,7 @@ use Rattle.model.specs.Run.{isFull, runAt}
 use Rattle.model.specs.Calls.{readingCall}
 use Rattle.model.specs.Histories.{Came, reading}
 use Rattle.model.proofs.Verdict.{done→all, all→done, reason-numbered}
-use Rattle.model.proofs.Answers.{rules-hold, Tells, told-exactly, told-later, point-tells, place-tells, reading-tells, numbered, plane-asked}
+use Rattle.model.proofs.Answers.{rules-hold, Tells, told-exactly, told-answer, point-tells, place-tells, reading-tells, numbered, plane-asked}
 use Rattle.crestfile.proofs.ForEach.{append-all, all-append, holds-one, one-holds}
 use Rattle.walk_laws.proofs.Outcomes.{TooFar, BeforeStart, AfterEnd, Answered, crest-answered, crest-outside-frame, crest-too-far, crest-before-start, crest-after-end}
 use Rattle.walk_laws.proofs.Reasons.{Lacks, empty, other, lacks-++, lacks-other, lacks→not-given}
@@ -68,9 +68,19 @@ abbrev pub OutsideAsked : List Element → ℤ → ℤ → Type 0
 OutsideAsked es s w =
     ((isStation es s ≡ true) × (natAbs w ≤ 20000000)) × (inFrame (inverseAt es (natAbs s) w .x) (inverseAt es (natAbs s) w .y) ≡ false)
 
+-- a number that no crest gives of its own is none of the own numbers
+not-own : {n : ℕ} (why : Reason) → isOwn n ≡ true → isOwn (number why) ≡ false → number why ≢ n
+not-own why own-number later e = false≢true (sym later ∙ ap isOwn e ∙ own-number)
+
+-- a plane reading's answer is that of its point
+from-answered : (l : Located) {station : ℕ} {offset residual : ℤ} {count : ℕ} → (fromLocated l ≡ AnswerPoint station offset residual count) ↔ (l ≡ LocatedAt station offset residual count)
+unfolding fromLocated
+from-answered (LocatedAt station offset residual count) = ((λ e. cc), (λ e. cc))
+from-answered (LocatedRefused why) = ((λ e. let z : _≡_ {A = ℕ} 0 1 = cc in absurd (omega arith)), (λ e. let z : _≡_ {A = ℕ} 0 1 = cc in absurd (omega arith)))
+
 -- ---- a reading of two numbers on a crest, whatever it asks: the rule of its numbers stands between the crest's own rules and those of the question q
 
-module _ (c : Crest) (own : Gives isOwn (c .rules)) (x y : Float) where
+module _ (c : Crest) (x y : Float) where
   numbers-hold : (verdict (c .rules ++ numberRules x y) ≡ Done) ↔ ((checkOf c ≡ Done) × BothWhole x y)
   unfolding numberRules
   numbers-hold =
@@ -79,10 +89,15 @@ module _ (c : Crest) (own : Gives isOwn (c .rules)) (x y : Float) where
         (λ h. all→done (all-append (done→all (c .rules) (h .0)) (one-holds (both .1 (h .1))))),
       )
 
-  not-own : {n : ℕ} (why : Reason) → isOwn n ≡ true → isOwn (number why) ≡ false → number why ≢ n
-  not-own why own-number later e = false≢true (sym later ∙ ap isOwn e ∙ own-number)
+  -- of whole numbers it comes to what the question does
+  came-as : {A : Type 0} (from : A → ReadingAnswer) (q : Question A) → ((why : Refusal) → from (q .refused why) ≡ AnswerRefused why) → BothWhole x y → answerAfter (c .rules) (numberedQuestion x y from q) ≡ from (answerAfter (c .rules) q)
+  unfolding answerAfter numberRules
+  came-as from q refuses h =
+      let hold = all→done (one-holds (and-eq-true-iff (isWhole (wholeOf x)) (isWhole (wholeOf y)) .1 h)) in
+      numbered x y from q refuses (c .rules)
+      ∙ ap (λ o. from (answerIf o q)) (ap verdict (append-assoc (c .rules) (numberRules x y) (q .order)) ∙ held-between (c .rules) (numberRules x y) (q .order) hold)
 
-  module _ {A : Type 0} {refused : Refusal → A} {paperOf : A → PaperAnswer} {paper : ReadingAnswer → PaperAnswer} (from : A → ReadingAnswer) (q : Question A) (tells : Tells refused paperOf q)
+  module _ (own : Gives isOwn (c .rules)) {A : Type 0} {refused : Refusal → A} {paperOf : A → PaperAnswer} {paper : ReadingAnswer → PaperAnswer} (from : A → ReadingAnswer) (q : Question A) (tells : Tells refused paperOf q)
       (asks : Tells AnswerRefused paper (numberedQuestion x y from q)) where
     abbrev came : ReadingAnswer
     came = answerAfter (c .rules) (numberedQuestion x y from q)
@@ -130,21 +145,13 @@ module _ (c : Crest) (own : Gives isOwn (c .rules)) (x y : Float) where
     unfolding numberRules number
     never-refused w later other-number lacks e = lacks→not-given (lacks-++ (lacks-other own later) (lacks-++ (other (λ f. other-number (sym f)) empty) lacks)) (came-refused w .0 e)
 
-    -- of whole numbers it comes to what the question does
-    came-as : ((why : Refusal) → from (q .refused why) ≡ AnswerRefused why) → BothWhole x y → came ≡ from (answerAfter (c .rules) q)
-    unfolding answerAfter numberRules
-    came-as refuses h =
-        let hold = all→done (one-holds (and-eq-true-iff (isWhole (wholeOf x)) (isWhole (wholeOf y)) .1 h)) in
-        numbered x y from q refuses (c .rules)
-        ∙ ap (λ o. from (answerIf o q)) (ap verdict (append-assoc (c .rules) (numberRules x y) (q .order)) ∙ held-between (c .rules) (numberRules x y) (q .order) hold)
-
 -- ---- of a plane point and of a line place
 
 module _ (c : Crest) (own : Gives isOwn (c .rules)) (x y : Float) where
   abbrev es : List Element
   es = c .elements
 
-  -- of whole numbers, as the point and as the place of these numbers
+  -- its two numbers, as a station and an offset
   abbrev s : ℤ
   s = valueOf (wholeOf x)
 
@@ -154,25 +161,20 @@ module _ (c : Crest) (own : Gives isOwn (c .rules)) (x y : Float) where
   -- of whole numbers it is refused as the point or the place of these numbers is
   pub point-refused-as : (why : Refusal) → isOwn (why .number) ≡ false → why .number ≢ 10 → (answerTo c (PlanePoint x y) ≡ AnswerRefused why) ↔ (BothWhole x y × (located c (pointOf x y) ≡ LocatedRefused why))
   unfolding readingQuestion
-  point-refused-as = refused-as c own x y fromLocated _ (point-tells (pointOf x y) es) (reading-tells (PlanePoint x y) es)
+  point-refused-as = refused-as c x y own fromLocated _ (point-tells (pointOf x y) es) (reading-tells (PlanePoint x y) es)
 
   pub place-refused-as : (why : Refusal) → isOwn (why .number) ≡ false → why .number ≢ 10 → (answerTo c (LinePlace x y) ≡ AnswerRefused why) ↔ (BothWhole x y × (inverse c s w ≡ InverseRefused why))
   unfolding readingQuestion
-  place-refused-as = refused-as c own x y fromInverse _ (place-tells s w es) (reading-tells (LinePlace x y) es)
+  place-refused-as = refused-as c x y own fromInverse _ (place-tells s w es) (reading-tells (LinePlace x y) es)
 
   -- and comes to what that does
   pub point-reading : BothWhole x y → answerTo c (PlanePoint x y) ≡ fromLocated (located c (pointOf x y))
   unfolding readingQuestion pointQuestion fromLocated
-  point-reading = came-as c own x y fromLocated _ (point-tells (pointOf x y) es) (reading-tells (PlanePoint x y) es) (λ why. refl)
+  point-reading = came-as c x y fromLocated _ (λ why. refl)
 
   pub place-reading : BothWhole x y → answerTo c (LinePlace x y) ≡ fromInverse (inverse c s w)
   unfolding readingQuestion placeQuestion fromInverse
-  place-reading = came-as c own x y fromInverse _ (place-tells s w es) (reading-tells (LinePlace x y) es) (λ why. refl)
-
-  from-answered : (l : Located) {station : ℕ} {offset residual : ℤ} {count : ℕ} → (fromLocated l ≡ AnswerPoint station offset residual count) ↔ (l ≡ LocatedAt station offset residual count)
-  unfolding fromLocated
-  from-answered (LocatedAt station offset residual count) = ((λ e. cc), (λ e. cc))
-  from-answered (LocatedRefused why) = ((λ e. let z : _≡_ {A = ℕ} 0 1 = cc in absurd (omega arith)), (λ e. let z : _≡_ {A = ℕ} 0 1 = cc in absurd (omega arith)))
+  place-reading = came-as c x y fromInverse _ (λ why. refl)
 
   -- "A point that meets no refusal is answered, and the station answered is the one judged.", of a plane reading
   pub reading-answered : (station : ℕ) (offset residual : ℤ) (count : ℕ) → (answerTo c (PlanePoint x y) ≡ AnswerPoint station offset residual count)
@@ -181,8 +183,8 @@ module _ (c : Crest) (own : Gives isOwn (c .rules)) (x y : Float) where
       let p = pointOf x y in
       let at = crest-answered c own p station offset residual count in (
         (λ e.
-            let on = told-later (point-tells p es) (c .rules ++ numberRules x y) {a = LocatedAt station offset residual count} (λ why k f. let z : _≡_ {A = ℕ} 0 1 = cc in omega arith) .0 (from-answered _ .0 (sym (plane-asked (c .rules) x y es) ∙ e)) in
-            let h = numbers-hold c own x y .0 (on .0) in
+            let on = told-answer (point-tells p es) (c .rules ++ numberRules x y) {a = LocatedAt station offset residual count} (λ why f. let z : _≡_ {A = ℕ} 0 1 = cc in omega arith) (from-answered _ .0 (sym (plane-asked (c .rules) x y es) ∙ e)) in
+            let h = numbers-hold c x y .0 (on .0) in
             (h .0, h .1, at .0 (rules-hold (pointQuestion p es) (c .rules) (h .0) ∙ on .1) .1)),
         (λ z. point-reading (z .1) ∙ from-answered (located c p) .1 (at .1 (z .0, z .2))),
       )
@@ -192,33 +194,31 @@ module _ (c : Crest) (own : Gives isOwn (c .rules)) (x y : Float) where
   pub point-refused-own : (why : Refusal) → isOwn (why .number) ≡ true → (answerTo c (PlanePoint x y) ≡ AnswerRefused why) ↔ (checkOf c ≡ Refused why)
   unfolding readingQuestion pointQuestion pointRules number isOwn
   point-refused-own why k =
-      let not = not-own c own x y in
-      refused-own c own x y fromLocated _ (point-tells (pointOf x y) es) (reading-tells (PlanePoint x y) es) why k
-      (other (not outsideFrame k refl) (other (not tooFar k refl) (other (not beforeStart k refl) (other (not afterEnd k refl) empty))))
+      refused-own c x y own fromLocated _ (point-tells (pointOf x y) es) (reading-tells (PlanePoint x y) es) why k
+      (other (not-own outsideFrame k refl) (other (not-own tooFar k refl) (other (not-own beforeStart k refl) (other (not-own afterEnd k refl) empty))))
 
   pub place-refused-own : (why : Refusal) → isOwn (why .number) ≡ true → (answerTo c (LinePlace x y) ≡ AnswerRefused why) ↔ (checkOf c ≡ Refused why)
   unfolding readingQuestion placeQuestion lineRules number isOwn
   place-refused-own why k =
-      let not = not-own c own x y in
-      refused-own c own x y fromInverse _ (place-tells s w es) (reading-tells (LinePlace x y) es) why k (other (not askedOutOfRange k refl) (other (not outsideFrame k refl) empty))
+      refused-own c x y own fromInverse _ (place-tells s w es) (reading-tells (LinePlace x y) es) why k (other (not-own askedOutOfRange k refl) (other (not-own outsideFrame k refl) empty))
 
   -- "when the point's station is asked for": 12, 13 and 14 are no line place's
   pub place-not-judged : (why : Refusal) → 12 ≤ why .number → why .number ≤ 14 → answerTo c (LinePlace x y) ≢ AnswerRefused why
   unfolding readingQuestion placeQuestion lineRules number isOwn
   place-not-judged why low high =
       let later : isOwn (why .number) ≡ false = rw (lt-leb (why .number) 9 (omega arith)) (and-false (leb 1 (why .number))) in
-      never-refused c own x y fromInverse _ (place-tells s w es) (reading-tells (LinePlace x y) es) why later (λ e. omega arith) (other (λ e. omega arith) (other (λ e. omega arith) empty))
+      never-refused c x y own fromInverse _ (place-tells s w es) (reading-tells (LinePlace x y) es) why later (λ e. omega arith) (other (λ e. omega arith) (other (λ e. omega arith) empty))
 
   -- ---- 10: "a reading's number not finite or not whole"
 
   pub point-refused-10 : (answerTo c (PlanePoint x y) ≡ AnswerRefused (refusal notWhole 0)) ↔ ((checkOf c ≡ Done) × ((wholeOf x ≡ none) ⊎ (wholeOf y ≡ none)))
   unfolding readingQuestion pointQuestion pointRules number
   point-refused-10 =
-      refused-10 c own x y fromLocated _ (point-tells (pointOf x y) es) (reading-tells (PlanePoint x y) es) (other (omega arith) (other (omega arith) (other (omega arith) (other (omega arith) empty))))
+      refused-10 c x y own fromLocated _ (point-tells (pointOf x y) es) (reading-tells (PlanePoint x y) es) (other (omega arith) (other (omega arith) (other (omega arith) (other (omega arith) empty))))
 
   pub place-refused-10 : (answerTo c (LinePlace x y) ≡ AnswerRefused (refusal notWhole 0)) ↔ ((checkOf c ≡ Done) × ((wholeOf x ≡ none) ⊎ (wholeOf y ≡ none)))
   unfolding readingQuestion placeQuestion lineRules number
-  place-refused-10 = refused-10 c own x y fromInverse _ (place-tells s w es) (reading-tells (LinePlace x y) es) (other (omega arith) (other (omega arith) empty))
+  place-refused-10 = refused-10 c x y own fromInverse _ (place-tells s w es) (reading-tells (LinePlace x y) es) (other (omega arith) (other (omega arith) empty))
 
   -- ---- 11 to 15 of a reading on a crest
 
@@ -226,7 +226,7 @@ module _ (c : Crest) (own : Gives isOwn (c .rules)) (x y : Float) where
   point-given : (why : Reason) {C : Type 0} → isOwn (number why) ≡ false → number why ≢ 10 → ((located c (pointOf x y) ≡ LocatedRefused (refusal why 0)) ↔ ((checkOf c ≡ Done) × C)) →
       (answerTo c (PlanePoint x y) ≡ AnswerRefused (refusal why 0)) ↔ ((checkOf c ≡ Done) × BothWhole x y × C)
   unfolding readingQuestion
-  point-given = given-as c own x y fromLocated _ (point-tells (pointOf x y) es) (reading-tells (PlanePoint x y) es)
+  point-given = given-as c x y own fromLocated _ (point-tells (pointOf x y) es) (reading-tells (PlanePoint x y) es)
 
   pub reading-refused-11 : (answerTo c (PlanePoint x y) ≡ AnswerRefused (refusal outsideFrame 0))
       ↔ ((checkOf c ≡ Done) × BothWhole x y × (inFrame (valueOf (wholeOf x)) (valueOf (wholeOf y)) ≡ false))
@@ -249,34 +249,35 @@ module _ (c : Crest) (own : Gives isOwn (c .rules)) (x y : Float) where
   place-given : (why : Reason) {C : Type 0} → isOwn (number why) ≡ false → number why ≢ 10 → ((inverse c s w ≡ InverseRefused (refusal why 0)) ↔ ((checkOf c ≡ Done) × C)) →
       (answerTo c (LinePlace x y) ≡ AnswerRefused (refusal why 0)) ↔ ((checkOf c ≡ Done) × BothWhole x y × C)
   unfolding readingQuestion
-  place-given = given-as c own x y fromInverse _ (place-tells s w es) (reading-tells (LinePlace x y) es)
+  place-given = given-as c x y own fromInverse _ (place-tells s w es) (reading-tells (LinePlace x y) es)
 
   pub reading-refused-15 : (answerTo c (LinePlace x y) ≡ AnswerRefused (refusal askedOutOfRange 0))
-      ↔ ((checkOf c ≡ Done) × BothWhole x y × ((isStation (c .elements) (valueOf (wholeOf x)) ≡ false) ⊎ (20000000 < natAbs (valueOf (wholeOf y)))))
+      ↔ ((checkOf c ≡ Done) × BothWhole x y × ((isStation (c .elements) s ≡ false) ⊎ (20000000 < natAbs w)))
   unfolding number isOwn
-  reading-refused-15 = place-given askedOutOfRange refl (λ e. omega arith) (place-refused-15 c own (valueOf (wholeOf x)) (valueOf (wholeOf y)))
+  reading-refused-15 = place-given askedOutOfRange refl (λ e. omega arith) (place-refused-15 c own s w)
 
   pub reading-refused-11-resulting : (answerTo c (LinePlace x y) ≡ AnswerRefused (refusal outsideFrame 0)) ↔
-      ((checkOf c ≡ Done) × BothWhole x y × OutsideAsked (c .elements) (valueOf (wholeOf x)) (valueOf (wholeOf y)))
+      ((checkOf c ≡ Done) × BothWhole x y × OutsideAsked (c .elements) s w)
   unfolding number isOwn
   reading-refused-11-resulting =
       place-given outsideFrame refl (λ e. omega arith)
-      (Iff·trans (place-refused-11 c own (valueOf (wholeOf x)) (valueOf (wholeOf y))) ((λ z. (z .0, (z .1, z .2))), (λ z. (z .0, z .1 .0, z .1 .1))))
+      (Iff·trans (place-refused-11 c own s w) ((λ z. (z .0, (z .1, z .2))), (λ z. (z .0, z .1 .0, z .1 .1))))
 
 -- ---- the same of the C call on a run
+
+-- what a call returns tells the refusal
+returns : (a : ReadingAnswer) → ((why : Refusal) → a ≡ AnswerRefused why → Numbered why) → (why : Reason) (place : ℕ) → code (paperOfReading 0 a) ≡ number why + 256 * place → a ≡ AnswerRefused (refusal why place)
+unfolding code paperOfReading refusal
+returns (AnswerPoint station offset residual visits) h why place e = absurd (omega (arith, reason-numbered why))
+returns (AnswerPlace x y) h why place e = absurd (omega (arith, reason-numbered why))
+returns (AnswerRefused w) h why place e =
+    let n : w .number ≡ number why = omega (arith, reason-numbered why, h w refl) in
+    let p : w .place ≡ place = omega (arith, reason-numbered why, h w refl) in
+    ap₂ (λ (m k : ℕ). AnswerRefused (record { number = m; place = k })) n p
 
 -- "A C call returns the refusal number plus 256 times its place": a call returns that of a reading's refusal exactly when the run's bytes are 24, the run is not full and
 -- the reading came to it
 module _ {a : ReadingAnswer} (came : Came a) (run : List ℕ) where
-  returns : (a : ReadingAnswer) → ((why : Refusal) → a ≡ AnswerRefused why → Numbered why) → (why : Reason) (place : ℕ) → code (paperOfReading 0 a) ≡ number why + 256 * place → a ≡ AnswerRefused (refusal why place)
-  unfolding code paperOfReading refusal
-  returns (AnswerPoint station offset residual visits) h why place e = absurd (omega (arith, reason-numbered why))
-  returns (AnswerPlace x y) h why place e = absurd (omega (arith, reason-numbered why))
-  returns (AnswerRefused w) h why place e =
-      let n : w .number ≡ number why = omega (arith, reason-numbered why, h w refl) in
-      let p : w .place ≡ place = omega (arith, reason-numbered why, h w refl) in
-      ap₂ (λ (m k : ℕ). AnswerRefused (record { number = m; place = k })) n p
-
   pub call-returns : (why : Reason) (place : ℕ) → number why ≢ 16 → number why ≢ 18 →
       (readingCall a run .0 ≡ number why + 256 * place) ↔ ((length run ≡ 24) × (isFull (runAt run) ≡ false) × (a ≡ AnswerRefused (refusal why place)))
   unfolding code paperOfReading refusal

@@ -10,7 +10,7 @@ use Rattle.model.specs.Acceptance.{crestRules, crestElements}
 use Rattle.model.specs.Crest.{fileCrest}
 use Rattle.model.specs.Writer.{fileOf}
 use Rattle.model.specs.Walk.{visits}
-use Rattle.model.specs.Answers.{PaperAnswer, answer, refusedWith, answerAfter, stationQuestion, placed, paperOfPlaced, pointQuestion, located, paperOfLocated, placeQuestion, inverse, paperOfInverse, moveQuestion, stakeOut, paperOfMove}
+use Rattle.model.specs.Answers.{PaperAnswer, answeredWith, refusedWith, answerAfter, stationQuestion, placed, paperOfPlaced, pointQuestion, located, paperOfLocated, placeQuestion, inverse, paperOfInverse, moveQuestion, stakeOut, paperOfMove}
 
 abbrev pub point : ℤ → ℤ → Point
 point x y = record { x = x; y = y }
@@ -90,27 +90,27 @@ unfoldable pub examples : List Example
 unfolding refusal K crest
 examples =
     -- 1 and 2, of which the second is a tie with 6
-    (locate K (point (pos 512) (pos 300)) gives answer (pos 5 ∷ pos 300 ∷ pos 12 ∷ []))
-    ∷ (locate K (point (pos 550) (pos 300)) gives answer (pos 5 ∷ pos 300 ∷ pos 50 ∷ []))
+    (locate K (point (pos 512) (pos 300)) gives answeredWith (pos 5 ∷ pos 300 ∷ pos 12 ∷ []))
+    ∷ (locate K (point (pos 550) (pos 300)) gives answeredWith (pos 5 ∷ pos 300 ∷ pos 50 ∷ []))
     -- 3 and 4
-    ∷ (locate K (point (negℤ (pos 100)) (pos 0)) gives answer (pos 0 ∷ pos 0 ∷ negℤ (pos 100) ∷ []))
+    ∷ (locate K (point (negℤ (pos 100)) (pos 0)) gives answeredWith (pos 0 ∷ pos 0 ∷ negℤ (pos 100) ∷ []))
     ∷ (locate K (point (negℤ (pos 101)) (pos 0)) gives refusedBy beforeStart 3)
     -- 5 and 6
-    ∷ (locate K (point (pos 1000100) (pos 0)) gives answer (pos 10000 ∷ pos 0 ∷ pos 100 ∷ []))
+    ∷ (locate K (point (pos 1000100) (pos 0)) gives answeredWith (pos 10000 ∷ pos 0 ∷ pos 100 ∷ []))
     ∷ (locate K (point (pos 1000101) (pos 0)) gives refusedBy afterEnd 3)
     -- 7 and 8
-    ∷ (accept K (point (pos 500000) (pos 20000000)) gives answer [])
+    ∷ (accept K (point (pos 500000) (pos 20000000)) gives answeredWith [])
     ∷ (accept K (point (pos 500000) (pos 20000001)) gives refusedBy tooFar 0)
     -- 9
-    ∷ (invert K (pos 5) (pos 300) gives answer (pos 500 ∷ pos 300 ∷ []))
+    ∷ (invert K (pos 5) (pos 300) gives answeredWith (pos 500 ∷ pos 300 ∷ []))
     -- 10, 11 and 12
-    ∷ (place (crest 2 200000 (pos 1000000)) (pos 100000) gives answer (pos 9983342 ∷ pos 499583 ∷ []))
-    ∷ (place (crest 3 200000 (pos 1000000)) (pos 200000) gives answer (pos 19980009 ∷ pos 666191 ∷ []))
-    ∷ (place (crest 4 200000 (pos 1000000)) (pos 0) gives answer (negℤ (pos 19980009) ∷ pos 666191 ∷ []))
+    ∷ (place (crest 2 200000 (pos 1000000)) (pos 100000) gives answeredWith (pos 9983342 ∷ pos 499583 ∷ []))
+    ∷ (place (crest 3 200000 (pos 1000000)) (pos 200000) gives answeredWith (pos 19980009 ∷ pos 666191 ∷ []))
+    ∷ (place (crest 4 200000 (pos 1000000)) (pos 0) gives answeredWith (negℤ (pos 19980009) ∷ pos 666191 ∷ []))
     -- 13
-    ∷ (stake (point (pos 0) (pos 0)) (point (pos 100) (pos 200)) (pos 0) (pos ONE) gives answer (pos 200 ∷ negℤ (pos 100) ∷ []))
+    ∷ (stake (point (pos 0) (pos 0)) (point (pos 100) (pos 200)) (pos 0) (pos ONE) gives answeredWith (pos 200 ∷ negℤ (pos 100) ∷ []))
     -- 14: "visits 0, 3, then 0, 1, 2; count 5"
-    ∷ (walk (crest 1 3 (pos 0)) (point (pos 0) (pos 0)) gives answer (pos 0 ∷ pos 3 ∷ pos 0 ∷ pos 1 ∷ pos 2 ∷ pos 5 ∷ []))
+    ∷ (walk (crest 1 3 (pos 0)) (point (pos 0) (pos 0)) gives answeredWith (pos 0 ∷ pos 3 ∷ pos 0 ∷ pos 1 ∷ pos 2 ∷ pos 5 ∷ []))
     ∷ []
 
 abbrev pub asked : Example → PaperAnswer

@@ -25,7 +25,7 @@ use Rattle.model.specs.declared.Run.{Run}
 use Rattle.model.specs.declared.Noted.{Noted}
 use Rattle.model.specs.Refusals.{Rule, verdict}
 use Rattle.model.specs.Crest.{Crest}
-use Rattle.model.specs.Answers.{PaperAnswer, answer, refusedWith, paperIf, paperOfOutcome, Question, answerIf, answerAfter, answerOf, paperAfter, askedPaper, stationRules, stationQuestion, paperOfPlaced, pointRules, pointQuestion, paperOfLocated, lineRules, placeQuestion, paperOfInverse, moveRules, moveQuestion, paperOfMove}
+use Rattle.model.specs.Answers.{PaperAnswer, answeredWith, refusedWith, paperIf, paperOfOutcome, Question, answerIf, answerAfter, answerOf, paperAfter, askedPaper, stationRules, stationQuestion, paperOfPlaced, pointRules, pointQuestion, paperOfLocated, lineRules, placeQuestion, paperOfInverse, moveRules, moveQuestion, paperOfMove}
 use Rattle.model.specs.Readings.{wholeOf, valueOf, numberRules, fromLocated, fromInverse, numberedQuestion, readingQuestion, answerTo, valueCount, paperOfReading}
 use Rattle.model.specs.Run.{fullRules, notedIf, noted, notedPaperIf, notedPaper}
 use Rattle.model.proofs.Verdict.{verdict-after, refused-before}
@@ -37,7 +37,7 @@ module _ {A : Type 0} (q : Question A) (before : List Rule) where
   unfolding answerAfter
   rules-hold e = ap (λ o. answerIf o q) (verdict-after before (q .order) e)
 
-  pub rules-refuse : {why : Refusal} → verdict before ≡ Refused why → answerAfter before q ≡ q .refused why
+  rules-refuse : {why : Refusal} → verdict before ≡ Refused why → answerAfter before q ≡ q .refused why
   unfolding answerAfter answerIf
   rules-refuse e = ap (λ o. answerIf o q) (refused-before before (q .order) e)
 
@@ -61,7 +61,7 @@ pub data Bare : List Rule → Type 0 where
 -- nor one refusal for another.
 pub record Tells {A : Type 0} (refused : Refusal → A) (paperOf : A → PaperAnswer) (q : Question A) : Type 0 where
   pub refuses : (why : Refusal) → q .refused why ≡ refused why
-  pub values : paperOf (q .answer) ≡ answer (q .values)
+  pub values : paperOf (q .answer) ≡ answeredWith (q .values)
   pub zeros : (why : Refusal) → paperOf (refused why) ≡ refusedWith why (length (q .values))
   pub apart : (why : Refusal) → q .answer ≡ refused why → ⊥
   pub one : {v w : Refusal} → refused v ≡ refused w → v ≡ w
@@ -110,6 +110,10 @@ module _ {A : Type 0} {refused : Refusal → A} {paperOf : A → PaperAnswer} {q
       go : answerAfter before q ≡ a → (o : Outcome) → verdict before ≡ o → (verdict before ≡ Done) × (answerOf q ≡ a)
       go e Done k = (k, sym (rules-hold q before k) ∙ e)
       go e (Refused why) k = absurd (later why k (sym e ∙ told-refused before k))
+
+  -- so an answer comes from rules that hold and from the question
+  pub told-answer : (before : List Rule) {a : A} → ((why : Refusal) → a ≡ refused why → ⊥) → answerAfter before q ≡ a → (verdict before ≡ Done) × (answerOf q ≡ a)
+  told-answer before apart e = told-later before (λ why k. apart why) .0 e
 
 -- ---- each question
 

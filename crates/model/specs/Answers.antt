@@ -37,8 +37,8 @@ pub record PaperAnswer : Type 0 where
   pub place : ℕ
   pub values : List ℤ
 
-abbrev pub answer : List ℤ → PaperAnswer
-answer values = record { number = 0; place = 0; values = values }
+abbrev pub answeredWith : List ℤ → PaperAnswer
+answeredWith values = record { number = 0; place = 0; values = values }
 
 -- a refusal of a question that has n values
 abbrev pub refusedWith : Refusal → ℕ → PaperAnswer
@@ -46,7 +46,7 @@ refusedWith r n = record { number = r .number; place = r .place; values = replic
 
 -- of an order that comes to this outcome, for a question that has these values
 unfoldable pub paperIf : Outcome → List ℤ → PaperAnswer
-paperIf Done values = answer values
+paperIf Done values = answeredWith values
 paperIf (Refused r) values = refusedWith r (length values)
 
 -- "A C call returns the refusal number plus 256 times its place, or 0"
@@ -55,7 +55,7 @@ code p = p .number + 256 * p .place
 
 -- a check and a writer have no values
 unfoldable pub paperOfOutcome : Outcome → PaperAnswer
-paperOfOutcome Done = answer []
+paperOfOutcome Done = answeredWith []
 paperOfOutcome (Refused r) = refusedWith r 0
 
 -- ---- a question
@@ -140,7 +140,7 @@ abbrev pub placed : Crest → ℤ → Placed
 placed c s = asked (stationQuestion s) c
 
 unfoldable pub paperOfPlaced : Placed → PaperAnswer
-paperOfPlaced (PlacedAt x y tx ty) = answer (x ∷ y ∷ tx ∷ ty ∷ [])
+paperOfPlaced (PlacedAt x y tx ty) = answeredWith (x ∷ y ∷ tx ∷ ty ∷ [])
 paperOfPlaced (PlacedRefused r) = refusedWith r 4
 
 -- ---- station and offset of a point
@@ -182,7 +182,7 @@ located c p = asked (pointQuestion p) c
 
 -- "Every answer to a plane point carries it beside station, offset and residual; a refusal gives 0 for it"
 unfoldable pub paperOfLocated : Located → PaperAnswer
-paperOfLocated (LocatedAt station offset residual visits) = answer (pos station ∷ offset ∷ residual ∷ pos visits ∷ [])
+paperOfLocated (LocatedAt station offset residual visits) = answeredWith (pos station ∷ offset ∷ residual ∷ pos visits ∷ [])
 paperOfLocated (LocatedRefused r) = refusedWith r 4
 
 -- ---- the inverse
@@ -223,7 +223,7 @@ abbrev pub inverse : Crest → ℤ → ℤ → Inverse
 inverse c s w = asked (placeQuestion s w) c
 
 unfoldable pub paperOfInverse : Inverse → PaperAnswer
-paperOfInverse (InverseAt x y) = answer (x ∷ y ∷ [])
+paperOfInverse (InverseAt x y) = answeredWith (x ∷ y ∷ [])
 paperOfInverse (InverseRefused r) = refusedWith r 2
 
 -- ---- the stake-out
@@ -260,5 +260,5 @@ abbrev pub stakeOut : Point → Point → ℤ → ℤ → Move
 stakeOut own target c s = answerOf (moveQuestion own target c s)
 
 unfoldable pub paperOfMove : Move → PaperAnswer
-paperOfMove (By forward left) = answer (forward ∷ left ∷ [])
+paperOfMove (By forward left) = answeredWith (forward ∷ left ∷ [])
 paperOfMove (MoveRefused r) = refusedWith r 2

@@ -16,7 +16,7 @@ use Rattle.model.specs.declared.Inverse.the-variants.{At as InverseAt, Refused 
 use Rattle.model.specs.Acceptance.{frame}
 use Rattle.model.specs.Crest.{Crest, SoundCrest}
 use Rattle.model.specs.Answers.{placed, paperOfPlaced, located, paperOfLocated, inverse, paperOfInverse}
-use Rattle.model.proofs.Answers.{told-later, station-tells, point-tells, place-tells}
+use Rattle.model.proofs.Answers.{told-answer, station-tells, point-tells, place-tells}
 use Rattle.elements.specs.Extent.{Placeable}
 use Rattle.stations.proofs.CrestSmall.{placed-small, inverse-of-small}
 use Rattle.stations.proofs.StationTotal.{total-within}
@@ -70,7 +70,7 @@ module _ (c : Crest) (sound : SoundCrest c) where
 
   located-answers : (p : Point) (station : ℕ) (offset residual : ℤ) (visits : ℕ) → located c p ≡ LocatedAt station offset residual visits → Answers station offset residual visits
   located-answers p station offset residual visits e =
-      let on = told-later (point-tells p es) (c .rules) {a = LocatedAt station offset residual visits} (λ why k f. let z : _≡_ {A = ℕ} 0 1 = cc in omega arith) .0 e in
+      let on = told-answer (point-tells p es) (c .rules) {a = LocatedAt station offset residual visits} (λ why f. let z : _≡_ {A = ℕ} 0 1 = cc in omega arith) e in
       let accepted = sound .accepted (on .0) in
       let a = answered es p station offset residual visits .0 (on .1) in
       record {

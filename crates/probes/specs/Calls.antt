@@ -53,7 +53,7 @@ placedBytes (PlacedRefused r) old = old
 abbrev pub positionCall : Crest → ℤ → List ℕ → ℕ × List ℕ
 positionCall c s room = callOf paperOfPlaced placedBytes fourSize (stationQuestion s) c room
 
--- ---- station, offset, residual, i32, and visits, u32
+-- ---- station and visits, u32, offset and residual, i32
 
 unfoldable pub locatedBytes : Located → List ℕ → List ℕ
 unfolding putAll

@@ -5,7 +5,7 @@ use Rattle.records.proofs.refused.Statement.{statement}
 use Rattle.records.proofs.refused.Tie as tie
 
 returns : tie.Need-returns
-returns c = told-outcome _ (refl)
+returns c = told-outcome _ refl
 
 pub refused-spec : {M : Type 1} → statement M
 refused-spec = tie.close (tie.spec returns)

@@ -93,8 +93,3 @@ records-placed bytes few =
     let n = countOf bytes in
     then-placed (forEach records n 0) (forEach joins (n - 1) 0) (each-placed records n 0 (λ r h. record-placed (recordOf bytes r) r (omega arith)))
     (λ d. each-placed joins (n - 1) 0 (λ r h. join-placed (elementAt bytes r) (elementAt bytes (r + 1)) r (omega arith)))
-
-pub file-placed : (file : List ℕ) → PlacedOrder (crestRules file)
-unfolding crestRules
-file-placed file =
-    then-placed (blocksRules file) (recordsRules (recordBytes file)) (blocks-placed file) (λ d. records-placed (recordBytes file) (blocks→counted file d .few))

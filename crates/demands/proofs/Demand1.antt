@@ -39,7 +39,7 @@ use Rattle.model.specs.Histories.{Call, read, acknowledge, Came, reading, AllCa
 use Rattle.model.proofs.Verdict.{reason-numbered, AllHold, more, Cause, order-outcome, refused→first, refused-before, done→all, all→done}
 use Rattle.model.proofs.Answers.{Tells, told-refused, told-paper, told-exactly, told-answered, station-tells, point-tells, place-tells, move-tells, reading-tells}
 use Rattle.readings.specs.Stored.{Storable}
-use Rattle.readings.proofs.Refused.{refuses-within, AsRead, answer-as-read, Zeros, refusal-shows-zeros}
+use Rattle.readings.proofs.Refused.{refuses-numbered, AsRead, answer-as-read, Zeros, refusal-shows-zeros}
 use Rattle.readings.proofs.Calls.{reading-18, reading-16, reading-counted, not-counted-unchanged, acknowledge-18, acknowledge-0}
 use Rattle.walk_laws.proofs.Reasons.{first-holds, rest-hold}
 use Rattle.blocks.proofs.Bytes.{AllBytes}
@@ -131,7 +131,7 @@ file-came file r = reading (fileCrest file) (file-sound file) r
 
 -- its refusal has a number of the table
 pub came-numbered : {a : ReadingAnswer} → Came a → (why : Refusal) → a ≡ AnswerRefused why → Numbered why
-came-numbered (reading c sound r) why e = let n = refuses-within (why .number) (any-reading c sound r why e) in (n .0, omega (arith, n .1))
+came-numbered (reading c sound r) why e = refuses-numbered (why .number) (any-reading c sound r why e)
 
 -- that is no run's own
 pub came-as-read : {a : ReadingAnswer} → Came a → AsRead a

@@ -4,10 +4,12 @@
 -- condition holds at the station judged. A point that meets no refusal is answered, and the station answered is the one judged. The count of visited stations that an answer
 -- carries is that of the published walk, both passes together, and every station that the walk's second pass leaves out lies farther from the point than the one judged."
 use mathlib.Core.Bool.{true, false}
-use mathlib.Core.List.{List}
-use mathlib.Core.Logic.{_↔_}
+use mathlib.Core.List.{List, []}
+use mathlib.Core.Logic.{_≢_, _↔_}
 use mathlib.Core.Path.{_≡_}
 use Prim.Native.Nat.{ℕ, _+_, _*_, _≤_, _<_}
+use native.Mathlib.Omega.{arith}
+use lib.Dec.{leb}
 use lib.ListN.{length}
 use lib.IntN.{ℤ, pos, negℤ}
 use lib.Signed.{_<ℤ_}
@@ -16,17 +18,25 @@ use Rattle.model.specs.declared.Point.{Point}
 use Rattle.model.specs.declared.Refusal.{Refusal}
 use Rattle.model.specs.declared.Outcome.the-variants.{Done, Refused}
 use Rattle.model.specs.declared.Located.the-variants.{At as LocatedAt, Refused as LocatedRefused}
+use Rattle.model.specs.declared.Placed.the-variants.{Refused as PlacedRefused}
+use Rattle.model.specs.declared.Inverse.the-variants.{Refused as InverseRefused}
+use Rattle.model.specs.declared.Move.the-variants.{Refused as MoveRefused}
 use Rattle.model.specs.Series.{positionOn}
-use Rattle.model.specs.Refusals.{refusal, tooFar, beforeStart, afterEnd}
+use Rattle.model.specs.Refusals.{Rule, Gives, number, refusal, rule₀, tooFar, beforeStart, afterEnd, recordCount, wrongRoom}
 use Rattle.model.specs.Acceptance.{inFrame}
 use Rattle.model.specs.Accepted.{Accepted, AlignmentAccepted}
-use Rattle.model.specs.Crest.{Crest, checkOf, SoundCrest}
+use Rattle.model.specs.Crest.{Crest, checkOf, isOwn, SoundCrest}
 use Rattle.model.specs.Stations.{total, distanceSq, D}
 use Rattle.model.specs.Judged.{judged, residualAt}
 use Rattle.model.specs.Walk.{firstVisits, bestOf, secondVisits, visits, isIn}
-use Rattle.model.specs.Answers.{locatedOn, located}
-use Rattle.model.proofs.Answers.{told-refused, point-tells}
+use Rattle.model.specs.Answers.{PaperAnswer, Question, answerAfter, readerOutcome, stationRules, stationQuestion, placed, locatedOn, located, lineRules, placeQuestion, inverse, moveRules, moveQuestion, stakeOut}
+use Rattle.model.specs.Writer.{countFits, blocksNeeded, writerRules, writerOutcome}
+use Rattle.model.specs.Records.{blockSize}
+use Rattle.model.proofs.Answers.{Tells, told-refused, told-exactly, station-tells, point-tells, place-tells, move-tells}
+use Rattle.model.proofs.RuleNumbers.{own-apart, records-own}
 use Rattle.model.proofs.Judged.{judged-least}
+use Rattle.sources.proofs.Sound.{file-sound}
+use Rattle.walk_laws.proofs.Reasons.{Lacks, empty, other, lacks-++, lacks-other, lacks→not-given}
 use Rattle.walk_laws.proofs.Spaced as spaced
 use Rattle.walk_laws.proofs.Walked as walked
 use Rattle.walk_laws.proofs.Outcomes.{Answered}
@@ -120,3 +130,35 @@ module _ (c : Crest) (sound : SoundCrest c) (p : Point) where
 -- Positions j mm apart on an element are at most 150 j + 30 grains apart. This fact of the series enters once, in `Spaced`.
 pub positions-close : (e : Element) → Accepted e → (s j : ℕ) → s + j ≤ e .length → distanceSq (positionOn e s) (positionOn e (s + j)) ≤ (150 * j + 30) * (150 * j + 30)
 positions-close = spaced.positions-close
+
+-- "when the point's station is asked for": no other question gives 12, 13 or 14, nor do the reader and the writer; of a reading, `place-not-judged` says it
+module _ (why : Refusal) (low : 12 ≤ why .number) (high : why .number ≤ 14) where
+  own-lacks : {rs : List Rule} → Gives isOwn rs → Lacks (why .number) rs
+  own-lacks own = lacks-other own (own-apart (why .number) (omega arith) (omega arith))
+
+  never : {A : Type 0} {refused : Refusal → A} {paperOf : A → PaperAnswer} {q : Question A} → Tells refused paperOf q → (before : List Rule) → Lacks (why .number) before → Lacks (why .number) (q .order) → answerAfter before q ≢ refused why
+  never tells before j k e = lacks→not-given (lacks-++ j k) (told-exactly tells before why .0 e)
+
+  pub position-not-judged : (c : Crest) → SoundCrest c → (s : ℤ) → placed c s ≢ PlacedRefused why
+  unfolding stationQuestion stationRules number
+  position-not-judged c sound s = never (station-tells s (c .elements)) (c .rules) (own-lacks (sound .own)) (other (λ e. omega arith) empty)
+
+  pub inverse-not-judged : (c : Crest) → SoundCrest c → (s w : ℤ) → inverse c s w ≢ InverseRefused why
+  unfolding placeQuestion lineRules number
+  inverse-not-judged c sound s w = never (place-tells s w (c .elements)) (c .rules) (own-lacks (sound .own)) (other (λ e. omega arith) (other (λ e. omega arith) empty))
+
+  pub stake-out-not-judged : (own target : Point) (c s : ℤ) → stakeOut own target c s ≢ MoveRefused why
+  unfolding moveQuestion moveRules number
+  stake-out-not-judged own target c s = never (move-tells own target c s) [] empty (other (λ e. omega arith) (other (λ e. omega arith) (other (λ e. omega arith) empty)))
+
+  pub check-not-judged : (c : Crest) → SoundCrest c → checkOf c ≢ Refused why
+  check-not-judged c sound = lacks→not-given (own-lacks (sound .own))
+
+  pub record-not-judged : (file : List ℕ) (r : ℕ) → readerOutcome file r ≢ Refused why
+  unfolding readerOutcome number
+  record-not-judged file r = lacks→not-given (lacks-++ (own-lacks (file-sound file .own)) (other (λ e. omega arith) empty))
+
+  pub write-not-judged : (records : List ℕ) (room : ℕ) → writerOutcome records room ≢ Refused why
+  unfolding writerOutcome writerRules number
+  write-not-judged records room =
+      lacks→not-given (other {r = rule₀ recordCount (countFits (length records))} (λ e. omega arith) (lacks-++ (own-lacks (records-own records)) (other {r = rule₀ wrongRoom (leb (blockSize * blocksNeeded records) room)} (λ e. omega arith) empty)))

@@ -1,14 +1,12 @@
 -- Document 01, "Refusal numbers", of a reading: 1 to 9 are the crest's own, and 10 to 15 are given exactly when, on a crest of any source and by a C call on a run. A reading of
 -- whole numbers is answered and refused as its point or its place is, since the rule of its numbers stands between the crest's own rules and those of the question.
 use Prim.Native.Nat.{ℕ, _+_, _*_, _≤_, _<_}
-use mathlib.Core.Bool.{true, false, _&&_, false≢true, and-false, and-eq-true-iff}
+use mathlib.Core.Bool.{true, false, _&&_, false≢true, and-eq-true-iff}
 use mathlib.Core.List.{List, _++_, append-assoc}
 use mathlib.Core.Logic.{_≢_, _⊎_, ⊎-map, _↔_, Iff·rfl, Iff·trans, Iff·and}
 use mathlib.Core.Path.{_≡_, refl, sym, _∙_, ap, ap₂}
 use native.Mathlib.Nat.{add-zero}
 use native.Mathlib.Omega.{arith}
-use lib.Dec.{leb}
-use borrow.Author.Tests.{lt-leb}
 use lib.Ieee.{Float}
 use lib.IntN.{ℤ, natAbs}
 use lib.ListN.{length}
@@ -32,6 +30,7 @@ use Rattle.model.specs.Run.{isFull, runAt}
 use Rattle.model.specs.Calls.{readingCall}
 use Rattle.model.specs.Histories.{Came, reading}
 use Rattle.model.proofs.Verdict.{done→all, all→done, reason-numbered}
+use Rattle.model.proofs.RuleNumbers.{own-apart}
 use Rattle.model.proofs.Answers.{rules-hold, Tells, told-exactly, told-answer, point-tells, place-tells, reading-tells, numbered, plane-asked}
 use Rattle.crestfile.proofs.ForEach.{append-all, all-append, holds-one, one-holds}
 use Rattle.walk_laws.proofs.Outcomes.{TooFar, BeforeStart, AfterEnd, Answered, crest-answered, crest-outside-frame, crest-too-far, crest-before-start, crest-after-end}
@@ -206,8 +205,16 @@ module _ (c : Crest) (own : Gives isOwn (c .rules)) (x y : Float) where
   pub place-not-judged : (why : Refusal) → 12 ≤ why .number → why .number ≤ 14 → answerTo c (LinePlace x y) ≢ AnswerRefused why
   unfolding readingQuestion placeQuestion lineRules number isOwn
   place-not-judged why low high =
-      let later : isOwn (why .number) ≡ false = rw (lt-leb (why .number) 9 (omega arith)) (and-false (leb 1 (why .number))) in
+      let later = own-apart (why .number) (omega arith) (omega arith) in
       never-refused c x y own fromInverse _ (place-tells s w es) (reading-tells (LinePlace x y) es) why later (λ e. omega arith) (other (λ e. omega arith) (other (λ e. omega arith) empty))
+
+  -- and 15 is no plane point's
+  pub point-not-out-of-range : (why : Refusal) → why .number ≡ 15 → answerTo c (PlanePoint x y) ≢ AnswerRefused why
+  unfolding readingQuestion pointQuestion pointRules number
+  point-not-out-of-range why e =
+      let later = own-apart (why .number) (omega arith) (omega arith) in
+      never-refused c x y own fromLocated _ (point-tells (pointOf x y) es) (reading-tells (PlanePoint x y) es) why later (λ f. omega arith)
+      (other (λ f. omega arith) (other (λ f. omega arith) (other (λ f. omega arith) (other (λ f. omega arith) empty))))
 
   -- ---- 10: "a reading's number not finite or not whole"
 
@@ -322,6 +329,11 @@ module _ (c : Crest) (sound : SoundCrest c) (x y : Float) (run : List ℕ) where
   unfolding number
   plane-call-refused-14 = call-given (reading c sound (PlanePoint x y)) run afterEnd (λ e. omega arith) (λ e. omega arith) (reading-refused-14 c (sound .own) x y)
 
+  pub plane-call-not-15 : (place : ℕ) → readingCall (answerTo c (PlanePoint x y)) run .0 ≢ 15 + 256 * place
+  unfolding number refusal
+  plane-call-not-15 place e =
+      point-not-out-of-range c (sound .own) x y (refusal askedOutOfRange place) refl (call-returns (reading c sound (PlanePoint x y)) run askedOutOfRange place (λ f. omega arith) (λ f. omega arith) .0 e .2)
+
   pub line-call-refused-10 : (readingCall (answerTo c (LinePlace x y)) run .0 ≡ 10) ↔ ((length run ≡ 24) × (isFull (runAt run) ≡ false) × ((checkOf c ≡ Done) × ((wholeOf x ≡ none) ⊎ (wholeOf y ≡ none))))
   unfolding number
   line-call-refused-10 = call-given (reading c sound (LinePlace x y)) run notWhole (λ e. omega arith) (λ e. omega arith) (place-refused-10 c (sound .own) x y)
@@ -333,3 +345,8 @@ module _ (c : Crest) (sound : SoundCrest c) (x y : Float) (run : List ℕ) where
   pub line-call-refused-11 : (readingCall (answerTo c (LinePlace x y)) run .0 ≡ 11) ↔ ((length run ≡ 24) × (isFull (runAt run) ≡ false) × ((checkOf c ≡ Done) × BothWhole x y × OutsideAsked (c .elements) (valueOf (wholeOf x)) (valueOf (wholeOf y))))
   unfolding number
   line-call-refused-11 = call-given (reading c sound (LinePlace x y)) run outsideFrame (λ e. omega arith) (λ e. omega arith) (reading-refused-11-resulting c (sound .own) x y)
+
+  pub line-call-not-judged : (why : Reason) → 12 ≤ number why → number why ≤ 14 → (place : ℕ) → readingCall (answerTo c (LinePlace x y)) run .0 ≢ number why + 256 * place
+  unfolding refusal
+  line-call-not-judged why low high place e =
+      place-not-judged c (sound .own) x y (refusal why place) low high (call-returns (reading c sound (LinePlace x y)) run why place (λ f. omega arith) (λ f. omega arith) .0 e .2)

@@ -36,7 +36,8 @@ use Rattle.model.specs.Run.{isFull, runAt, noted}
 use Rattle.model.specs.Calls.{readingCall, acknowledgeCall, stakeOutCall}
 use Rattle.model.specs.Histories.{Came}
 use Rattle.model.proofs.Verdict.{reason-numbered, none, more, done→all, all→done}
-use Rattle.model.proofs.RuleNumbers.{records-own, file-own}
+use Rattle.model.proofs.RuleNumbers.{records-own}
+use Rattle.sources.proofs.Sound.{file-sound}
 use Rattle.crestfile.proofs.ForEach.{one-holds, holds-one, each→all, all→each}
 use Rattle.crestfile.proofs.WriterRules.{rulesButRoom}
 use Rattle.walk_laws.proofs.Reasons.{Lacks, first-holds, rest-hold, empty, other, lacks-++, lacks-other, given-exactly}
@@ -163,7 +164,7 @@ module _ (file : List ℕ) (r : ℕ) where
   unfolding number
   check-refused-9 = check-at-join kink (omega arith) (join-gives-9 _ _ r)
 
--- ---- 11 and 15 on a crest of any source, after its own: of a file, `fileCrest file` with `file-own file`
+-- ---- 11 and 15 on a crest of any source, after its own: of a file, `fileCrest file` with `file-sound file .own`
 
 module _ (c : Crest) (own : Gives isOwn (c .rules)) where
   -- "plane point outside the frame, given ..": a point
@@ -213,7 +214,7 @@ pub record-refused-15 : (file : List ℕ) (r : ℕ) → (readerOutcome file r �
 unfolding readerOutcome number isOwn
 record-refused-15 file r =
     let n = countOf (recordBytes file) in
-    Iff·trans (next-after-crest (rule₀ askedOutOfRange (ltb r n)) [] empty (fileCrest file) (file-own file) refl) (Iff·and Iff·rfl (ltb-false r n, le-ltb r n))
+    Iff·trans (next-after-crest (rule₀ askedOutOfRange (ltb r n)) [] empty (fileCrest file) (file-sound file .own) refl) (Iff·and Iff·rfl (ltb-false r n, le-ltb r n))
 
 -- ---- 11 and 7 of a stake-out, which has no crest
 

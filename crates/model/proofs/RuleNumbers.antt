@@ -1,14 +1,17 @@
 -- An order of refusals gives only the numbers of its rules: by induction over the rules. Those on a crest's own bytes give its own, 1 to 9.
-use Prim.Native.Nat.{ℕ, zero, suc, _+_, _-_}
-use mathlib.Core.Bool.{Bool, true, false}
+use Prim.Native.Nat.{ℕ, zero, suc, _+_, _-_, _≤_}
+use mathlib.Core.Bool.{Bool, true, false, and-false}
 use mathlib.Core.List.{List, _++_}
-use mathlib.Core.Path.{_≡_, refl, sym, _∙_, ap}
+use mathlib.Core.Path.{_≡_, refl, sym, _∙_, ap, subst}
 use native.Mathlib.Omega.{arith}
+use lib.Dec.{T, leb, leb→le}
+use mir.Facts.{and-yes}
+use borrow.Author.Tests.{lt-leb}
 use Rattle.model.specs.declared.Refusal.{Refusal}
 use Rattle.model.specs.declared.Outcome.the-variants.{Refused}
-use Rattle.model.specs.Records.{recordBytes, countOf, blockCount}
-use Rattle.model.specs.Refusals.{Rule, number, refusal, Gives, none, more, orRefused, verdict, forEach}
-use Rattle.model.specs.Acceptance.{recordRules, joinRules, eachRecord, eachJoin, recordsRules, sumRules, fieldRules, blocksRules, crestRules}
+use Rattle.model.specs.Records.{countOf, blockCount}
+use Rattle.model.specs.Refusals.{lastNumber, Rule, number, refusal, Gives, none, more, orRefused, verdict, forEach}
+use Rattle.model.specs.Acceptance.{recordRules, joinRules, eachRecord, eachJoin, recordsRules, sumRules, fieldRules, blocksRules}
 use Rattle.model.specs.Crest.{isOwn}
 
 pub gives-++ : {t : ℕ → Bool} {rs ss : List Rule} → Gives t rs → Gives t ss → Gives t (rs ++ ss)
@@ -37,6 +40,15 @@ given {t} w (more {r} {rs} h a) e = either (r .holds) (given w a) e
 
 -- ---- a crest's own
 
+-- They are the table's, and none of 10 to 18, which are the questions', the run's and the writer's. Nothing else is used of which they are.
+pub own-numbered : (n : ℕ) → isOwn n ≡ true → (1 ≤ n) × (n ≤ lastNumber)
+unfolding isOwn
+own-numbered n h = let k = and-yes (leb 1 n) (leb n 9) (subst T (sym h) tt) in (omega (arith, leb→le), omega (arith, leb→le))
+
+pub own-apart : (n : ℕ) → 10 ≤ n → n ≤ 18 → isOwn n ≡ false
+unfolding isOwn
+own-apart n low high = rw (lt-leb n 9 (omega arith)) (and-false (leb 1 n))
+
 pub records-own : (bytes : List ℕ) → Gives isOwn (recordsRules bytes)
 unfolding recordsRules eachRecord eachJoin recordRules joinRules number isOwn
 records-own bytes =
@@ -51,7 +63,3 @@ blocks-own file =
     (gives-++
     (gives-forEach (λ b. more refl none) (blockCount file) 0)
     (gives-forEach (λ b. more refl none) (blockCount file) 0))
-
-pub file-own : (file : List ℕ) → Gives isOwn (crestRules file)
-unfolding crestRules
-file-own file = gives-++ (blocks-own file) (records-own (recordBytes file))

@@ -13,7 +13,8 @@ use Rattle.model.specs.Refusals.{rule₀, orRefused, refusal, askedOutOfRange}
 use Rattle.model.specs.Acceptance.{crestRules}
 use Rattle.model.specs.Answers.{code, refusedWith, paperOfOutcome, readerOutcome, readerPart}
 use Rattle.codes.specs.Codes.{Small}
-use Rattle.crestfile.proofs.Placed.{none-placed, file-placed}
+use Rattle.sources.proofs.Sound.{file-sound}
+use Rattle.crestfile.proofs.Placed.{none-placed}
 use Rattle.codes.proofs.Codes.{after-small, unplaced}
 use Rattle.record_probe.specs.Calls.{recordRoom, recordCall}
 
@@ -22,7 +23,7 @@ module _ (file : List ℕ) (r : ℕ) where
   unfolding readerOutcome
   reader-small =
       let known = ltb r (countOf (recordBytes file)) in
-      after-small (crestRules file) (rule₀ askedOutOfRange known ∷ []) (file-placed file) (unplaced askedOutOfRange known [] none-placed)
+      after-small (crestRules file) (rule₀ askedOutOfRange known ∷ []) (file-sound file .places) (unplaced askedOutOfRange known [] none-placed)
 
   pub refusal-small : {why : Refusal} → readerOutcome file r ≡ Refused why → Small (refusedWith why 0)
   unfolding paperOfOutcome

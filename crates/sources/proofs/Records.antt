@@ -5,7 +5,7 @@ use mathlib.Core.List.{List}
 use mathlib.Core.Path.{_≡_, refl, ap, _∙_}
 use native.Mathlib.Omega.{arith}
 use lib.ListN.{length}
-use Rattle.model.specs.Records.{part, recordOf}
+use Rattle.model.specs.Records.{recordSize, mostRecords, part, recordOf}
 use Rattle.model.specs.Writer.{countFits}
 use Rattle.model.proofs.Verdict.{done→all}
 use Rattle.blocks.proofs.Parts.{length-part}
@@ -21,26 +21,22 @@ unfolding layoutRules recordsIn
 records-fit File crest amendment e = crest-count (blocks→crest crest e) .0
 records-fit Row crest amendment e = holds-one (done→all _ e)
 
-pub records-counted : (form : Form) (crest amendment : List ℕ) → Readable form crest amendment → (1 ≤ countIn form crest amendment) × (countIn form crest amendment ≤ 60)
+pub records-counted : (form : Form) (crest amendment : List ℕ) → Readable form crest amendment → (1 ≤ countIn form crest amendment) × (countIn form crest amendment ≤ mostRecords)
 records-counted form crest amendment e =
     let k = count-fits (length (recordsIn form crest amendment)) .0 (records-fit form crest amendment e) in
     (omega (arith, k .0 .1), k .1)
 
 -- record r where it lies
 pub record-lies : (form : Form) (crest amendment : List ℕ) (r : ℕ) → Readable form crest amendment → r < countIn form crest amendment →
-    (startIn form r + 32 ≤ length crest) × (part crest (startIn form r) 32 ≡ recordOf (recordsIn form crest amendment) r)
+    (startIn form r + recordSize ≤ length crest) × (part crest (startIn form r) recordSize ≡ recordOf (recordsIn form crest amendment) r)
 unfolding layoutRules recordsIn startIn
 record-lies File crest amendment r e h = let w = record-within crest r e h in (w .1, w .0)
 record-lies Row crest amendment r e h = (omega arith, refl)
 
--- so what the way to record r asks holds, and a part at its start is the record and has 32 bytes
+-- so what the way to record r asks holds, and the part that it finds is the record and has 32 bytes
 module _ (form : Form) (crest amendment : List ℕ) (r : ℕ) (asked : Readable form crest amendment × (r < countIn form crest amendment)) where
-  pub record-below : r < 60
-  record-below = omega (arith, records-counted form crest amendment (asked .0))
+  pub way-asks : (r < mostRecords) × (startIn form r + recordSize ≤ length crest)
+  way-asks = (omega (arith, records-counted form crest amendment (asked .0)), record-lies form crest amendment r (asked .0) (asked .1) .0)
 
-  module _ {at : ℕ} (starts : at ≡ startIn form r) where
-    pub part-fits : at + 32 ≤ length crest
-    part-fits = rw starts (record-lies form crest amendment r (asked .0) (asked .1) .0)
-
-    pub part-is-record : {p : List ℕ} → p ≡ part crest at 32 → (p ≡ recordOf (recordsIn form crest amendment) r) × (length p ≡ 32)
-    part-is-record q = ((rw starts at q) ∙ record-lies form crest amendment r (asked .0) (asked .1) .1, ap length q ∙ length-part crest at 32 part-fits)
+  pub part-is-record : {p : List ℕ} → p ≡ part crest (startIn form r) recordSize → (p ≡ recordOf (recordsIn form crest amendment) r) × (length p ≡ recordSize)
+  part-is-record q = (q ∙ record-lies form crest amendment r (asked .0) (asked .1) .1, ap length q ∙ length-part crest (startIn form r) recordSize (way-asks .1))

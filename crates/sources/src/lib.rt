@@ -12,10 +12,10 @@ use records::check_record;
 use records::refused;
 ghost use mathlib.Core.List.{[]};
 ghost use mathlib.Core.Path.{_≡_};
-ghost use Prim.Native.Nat.{_+_, _<_};
+ghost use Prim.Native.Nat.{_+_, _≤_, _<_};
 ghost use lib.ListN.{length};
 ghost use denote.Ref.{ptr};
-ghost use Rattle.model.specs.Records.{recordSize, mostRecords, recordOf};
+ghost use Rattle.model.specs.Records.{recordSize, mostRecords, part, recordOf};
 ghost use Rattle.model.specs.Refusals.{verdict};
 ghost use Rattle.model.specs.Acceptance.{elementAt, eachRecord, recordRules};
 ghost use Rattle.sources.specs.Sources.{recordsIn, countIn, startIn, layoutRules, Readable};
@@ -73,6 +73,16 @@ fn start_in(form: Form, r: usize) -> usize
     }
 }
 
+// The one way to the part of record r.
+fn part_in(crest: &[u8], form: Form, r: usize) -> &[u8]
+    requires { ⌜ r < mostRecords ⌝ }
+    requires { ⌜ startIn form r + recordSize ≤ length (now crest) ⌝ }
+    ensures { λ p. ⌜ now p ≡ part (now (crest .entry)) (startIn form r) recordSize ⌝ }
+    ensures place { λ p. ⌜ ptr p ≡ (ptr (crest .entry) .0, startIn form r + ptr (crest .entry) .1) ⌝ }
+{
+    part_at(crest, start_in(form, r), RECORD_SIZE)
+}
+
 // Record r, where it lies.
 pub fn record_in<'a>(crest: &'a [u8], amendment: &'a [u8], form: Form, r: usize) -> &'a [u8]
     requires { ⌜ Readable form (now crest) (now amendment) ⌝ }
@@ -81,7 +91,7 @@ pub fn record_in<'a>(crest: &'a [u8], amendment: &'a [u8], form: Form, r: usize)
     ensures size { λ p. ⌜ length (now p) ≡ recordSize ⌝ }
     ensures place { λ p. ⌜ ptr p ≡ (ptr (crest .entry) .0, startIn form r + ptr (crest .entry) .1) ⌝ }
 {
-    part_at(crest, start_in(form, r), RECORD_SIZE)
+    part_in(crest, form, r)
 }
 
 // The element of record r.
@@ -90,7 +100,7 @@ pub fn element_in(crest: &[u8], amendment: &[u8], form: Form, r: usize) -> Eleme
     requires { ⌜ r < countIn form (now crest) (now amendment) ⌝ }
     ensures { λ e. ⌜ e ≡ elementAt (recordsIn form (now (crest .entry)) (now (amendment .entry))) r ⌝ }
 {
-    records::element(part_at(crest, start_in(form, r), RECORD_SIZE))
+    records::element(part_in(crest, form, r))
 }
 
 // The refusals of record r by its own bytes.
@@ -99,7 +109,7 @@ fn check_in(crest: &[u8], amendment: &[u8], form: Form, r: usize) -> Outcome
     requires { ⌜ r < countIn form (now crest) (now amendment) ⌝ }
     ensures { λ o. ⌜ o ≡ verdict (recordRules (recordOf (recordsIn form (now (crest .entry)) (now (amendment .entry))) r) r) ⌝ }
 {
-    check_record(part_at(crest, start_in(form, r), RECORD_SIZE), r as u32)
+    check_record(part_in(crest, form, r), r as u32)
 }
 
 // 4 to 7: every record, where it lies.

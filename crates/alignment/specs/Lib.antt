@@ -1,2 +1,2 @@
--- For the code only: the part that the reader hands back. What it comes to, and what the check and the writer do, stands in `model`.
+-- Where the part lies that the reader hands back, which its promise says. What the part holds, and what the check and the writer do, stands in `model`.
 pub mod Lent

@@ -5,6 +5,7 @@ use model::units::ONE;
 ghost use mathlib.Core.Path.{_≡_};
 ghost use Prim.Native.Nat.{_+_, _*_, _/_, _^_, _<_, _≤_};
 ghost use lib.IntN.{pos, _*ℤ_};
+ghost use Rattle.model.specs.Acceptance.{longestElement};
 ghost use Rattle.model.specs.Rounding.{ONE, near};
 ghost use Rattle.model.specs.Series.{F, squareOf, arcSeries, spiralSeries};
 ghost use Rattle.elements.specs.Signs.{withSign};
@@ -82,7 +83,7 @@ pub fn factor_of(square: u64, f: Factor) -> u64
 
 // u, of a length in mm and the factor of u.
 pub fn along(length: u64, f: u64) -> u64
-    requires { ⌜ (length ≤ 500000) × (f ≤ ONE) ⌝ }
+    requires { ⌜ (length ≤ longestElement) × (f ≤ ONE) ⌝ }
     ensures { λ r. ⌜ pos r ≡ near (pos (100 * length) *ℤ pos f) ONE ⌝ }
 {
     near_even(GRAINS * length * f, ONE, 0)
@@ -144,7 +145,7 @@ pub fn direction(angle: u64, negative: u64) -> Turn
 
 // The magnitude of t on an arc: near of twice the numerator over twice the radius.
 pub fn arc_angle(s: u64, half: u64, divisor: u64) -> u64
-    requires { ⌜ (s ≤ 500000) × (half ≤ 10000000) × (1 ≤ divisor) ⌝ }
+    requires { ⌜ (s ≤ longestElement) × (half ≤ 10000000) × (1 ≤ divisor) ⌝ }
     ensures { λ r. ⌜ r ≡ (2 * (ONE * s) + half) / divisor ⌝ }
 {
     (2 * (ONE * s) + half) / divisor
@@ -152,7 +153,7 @@ pub fn arc_angle(s: u64, half: u64, divisor: u64) -> u64
 
 // The magnitude of t on a spiral: ONE·l² has up to 68 bits, so a long division with two digits of base 2^15.
 pub fn spiral_angle(l: u64, half: u64, divisor: u64) -> u64
-    requires { ⌜ (l ≤ 500000) × (half < 2 ^ 44) × (1 ≤ divisor) × (divisor < 2 ^ 44) × (l * l ≤ divisor) ⌝ }
+    requires { ⌜ (l ≤ longestElement) × (half < 2 ^ 44) × (1 ≤ divisor) × (divisor < 2 ^ 44) × (l * l ≤ divisor) ⌝ }
     ensures { λ r. ⌜ r ≡ (ONE * (l * l) + half) / divisor ⌝ }
 {
     let whole = l * l * 32768;

@@ -1,4 +1,4 @@
--- What the contracts of this crate cite, and what the crates above define their own terms by.
+-- What the contracts of this crate cite: `model` defines its own terms by Floor, Root and Plane, and Scaled is for the code only.
 pub mod Floor
 pub mod Scaled
 pub mod Root

@@ -17,7 +17,7 @@ ghost use lib.ListN.{length};
 ghost use Rattle.model.specs.Kinds.{decide};
 ghost use Rattle.model.specs.Records.{recordSize, i32At, allZero};
 ghost use Rattle.model.specs.Refusals.{verdict};
-ghost use Rattle.model.specs.Acceptance.{kindIn, elementOf, reservedZero, inFrame, radiusGood, rangesGood, isUnit, recordRules};
+ghost use Rattle.model.specs.Acceptance.{longestElement, kindIn, elementOf, reservedZero, inFrame, radiusGood, rangesGood, isUnit, recordRules};
 ghost use Rattle.model.specs.Answers.{paperIf, paperOfOutcome};
 
 // Whether all bytes are zero.
@@ -78,7 +78,7 @@ fn between(low: u64, x: u64, high: u64) -> bool
 
 // Whether a radius of magnitude r fits an element of this kind and length.
 fn radius_good(kind: Kind, l: u64, r: u64) -> bool
-    requires { ⌜ l ≤ 500000 ⌝ }
+    requires { ⌜ l ≤ longestElement ⌝ }
     ensures { λ b. ⌜ b ≡ radiusGood kind l r ⌝ }
 {
     match kind {

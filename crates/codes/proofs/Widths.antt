@@ -9,7 +9,7 @@ use mir.Facts.{sfits-widen}
 use mir.ValLaws.{toZ-ofZ}
 use Rattle.model.specs.declared.Point.{Point}
 use Rattle.model.specs.Records.{put, i32Bytes}
-use Rattle.readings.proofs.Narrow.{narrow}
+use Rattle.run.proofs.Narrow.{narrow}
 
 module _ (z : ℤ) (fits : SFits w32 z) where
   same : toZ w32 (ofZ w32 z) ≡ z

@@ -38,13 +38,13 @@ use Rattle.model.specs.Calls.{readingCall, acknowledgeCall, checkCall, writeCal
 use Rattle.model.specs.Histories.{Call, read, acknowledge, Came, reading, AllCame, none, asked, acknowledged-next, afterCalls, bytesAfterCalls, freshBytes, demanded}
 use Rattle.model.proofs.Verdict.{reason-numbered, AllHold, more, Cause, order-outcome, refused→first, refused-before, done→all, all→done}
 use Rattle.model.proofs.Answers.{Tells, told-refused, told-paper, told-exactly, told-answered, station-tells, point-tells, place-tells, move-tells, reading-tells}
-use Rattle.readings.specs.Stored.{Storable}
-use Rattle.readings.proofs.Refused.{refuses-numbered, AsRead, answer-as-read, Zeros, refusal-shows-zeros}
-use Rattle.readings.proofs.Calls.{reading-18, reading-16, reading-counted, not-counted-unchanged, acknowledge-18, acknowledge-0}
+use Rattle.run.specs.Stored.{Storable}
+use Rattle.run.proofs.Refused.{refuses-numbered, AsRead, answer-as-read, Zeros, refusal-shows-zeros}
+use Rattle.run.proofs.Calls.{reading-18, reading-16, reading-counted, not-counted-unchanged, acknowledge-18, acknowledge-0}
 use Rattle.walk_laws.proofs.Reasons.{first-holds, rest-hold}
 use Rattle.blocks.proofs.Bytes.{AllBytes}
 use Rattle.sources.proofs.Sound.{file-sound}
-use Rattle.answers.proofs.Storable.{answer-storable}
+use Rattle.readings.proofs.Storable.{answer-storable}
 use Rattle.demands.proofs.Histories.{ReadingsFit, bytes-spelled, bytes-follow-run, bytes-show-run, bytes-show-demanded, history-keeps, fresh-bytes-keep}
 use Rattle.demands.proofs.Lent.{Lending, Within, roomAfterAll, onRun, lent-history}
 

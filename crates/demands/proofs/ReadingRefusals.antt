@@ -35,7 +35,7 @@ use Rattle.model.proofs.Answers.{rules-hold, Tells, told-exactly, told-answer, 
 use Rattle.crestfile.proofs.ForEach.{append-all, all-append, holds-one, one-holds}
 use Rattle.walk_laws.proofs.Outcomes.{TooFar, BeforeStart, AfterEnd, Answered, crest-answered, crest-outside-frame, crest-too-far, crest-before-start, crest-after-end}
 use Rattle.walk_laws.proofs.Reasons.{Lacks, empty, other, lacks-++, lacks-other, lacks→not-given}
-use Rattle.readings.proofs.Calls.{reading-counted}
+use Rattle.run.proofs.Calls.{reading-counted}
 use Rattle.demands.proofs.Orders.{and-fails, held-between, next-after-crest}
 use Rattle.demands.proofs.Places.{first-part, second-part}
 use Rattle.demands.proofs.Demand1.{Numbered, came-numbered, ReadingEnds, no-run, run-full, counts, any-reading-call}

@@ -42,8 +42,8 @@ use Rattle.crestfile.proofs.ForEach.{one-holds, holds-one, each→all, all→ea
 use Rattle.crestfile.proofs.WriterRules.{rulesButRoom}
 use Rattle.walk_laws.proofs.Reasons.{Lacks, first-holds, rest-hold, empty, other, lacks-++, lacks-other, given-exactly}
 use Rattle.walk_laws.proofs.Outcomes.{crest-outside-frame}
-use Rattle.readings.proofs.Calls.{reading-18, reading-16, answer-not-the-runs, acknowledge-18, acknowledge-0}
-use Rattle.readings.proofs.Noting.{noted-full, noted-counted}
+use Rattle.run.proofs.Calls.{reading-18, reading-16, answer-not-the-runs, acknowledge-18, acknowledge-0}
+use Rattle.run.proofs.Noting.{noted-full, noted-counted}
 use Rattle.demands.proofs.Orders.{and-fails, two-rules, first-given, given-after-crest, next-after-crest}
 use Rattle.demands.proofs.Places.{lacks-rule, lacks-forEach, nowhere, here, given-at-place}
 use Rattle.demands.proofs.RecordRefusals.{RecordGives4, RecordGives5, RecordGives6, RecordGives7, JoinGives8, JoinGives9, record-gives-4, record-gives-5, record-gives-6, record-gives-7, join-gives-8, join-gives-9, RecordReached, JoinReached, records-lack, given-at-record, given-at-join}

@@ -1,7 +1,6 @@
 // The entries for callers in Rattle, of a crest file: bytes are lent, numbers and answers go by value, and a run by value or in place. Each answer is the one
 // that document 01 defines, and `paper` says the same by its number, place and values.
 pub use alignment::part::record_part;
-use answers::ask;
 pub use in_place::acknowledge as acknowledge_in_place;
 pub use in_place::note as note_in_place;
 use model::Display;
@@ -14,7 +13,8 @@ use model::Point;
 use model::Reading;
 use model::ReadingAnswer;
 use model::Run;
-pub use readings::run::acknowledge;
+use readings::ask;
+pub use run::acknowledge;
 use sources::Form;
 use sources::no_amendment;
 ghost use mathlib.Core.List.{[]};
@@ -104,7 +104,7 @@ pub fn display(file: &[u8], reading: Reading) -> Display
     ensures { λ r. ⌜ r ≡ displayOf (answerTo (fileCrest (now (file .entry))) reading) ⌝ }
 {
     let came = answer(file, reading);
-    readings::display::display(came)
+    run::display::display(came)
 }
 
 // A reading on a run: counted, or refused with 16 where the run is full.
@@ -112,12 +112,12 @@ pub fn note(file: &[u8], reading: Reading, run: Run) -> NotedReading
     ensures { λ r. ⌜ r ≡ notedReading (answerTo (fileCrest (now (file .entry))) reading) run ⌝ }
     ensures paper { λ r. ⌜ paperOfReading (valueCount reading) (r .answer) ≡ notedPaper (askedPaper (readingQuestion reading) (fileCrest (now (file .entry)))) run ⌝ }
 {
-    let noted = answers::note_file(file, reading, run);
+    let noted = readings::note_file(file, reading, run);
     let answer = noted.answer;
     let after = noted.run;
     NotedReading {
         answer,
-        display: readings::display::display(answer),
+        display: run::display::display(answer),
         run: after,
     }
 }

@@ -12,7 +12,7 @@ ghost use Rattle.model.specs.Run.{noted, notedPaper, acknowledged};
 pub fn note(crest: &[u8], reading: Reading, run: &mut Run) -> ReadingAnswer
     ensures { λ r. ⌜ (record { answer = r; run = now (run .exit) } ≡ noted (answerTo (fileCrest (now (crest .entry))) reading) (now (run .entry))) × (paperOfReading (valueCount reading) r ≡ notedPaper (askedPaper (readingQuestion reading) (fileCrest (now (crest .entry)))) (now (run .entry))) ⌝ }
 {
-    let noted = answers::note_file(crest, reading, *run);
+    let noted = readings::note_file(crest, reading, *run);
     *run = noted.run;
     noted.answer
 }
@@ -21,5 +21,5 @@ pub fn note(crest: &[u8], reading: Reading, run: &mut Run) -> ReadingAnswer
 pub fn acknowledge(run: &mut Run)
     ensures { λ _. ⌜ now (run .exit) ≡ acknowledged (now (run .entry)) ⌝ }
 {
-    *run = readings::run::acknowledge(*run);
+    *run = run::acknowledge(*run);
 }

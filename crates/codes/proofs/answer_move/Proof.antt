@@ -9,7 +9,7 @@ use Rattle.model.specs.declared.Move.{Move}
 use Rattle.model.specs.Records.{putAll}
 use Rattle.model.specs.Answers.{code, paperOfMove}
 use Rattle.model.specs.Calls.{forwardAt, moveBytes}
-use Rattle.readings.proofs.Narrow.{narrow-fits}
+use Rattle.run.proofs.Narrow.{narrow-fits}
 use Rattle.codes.specs.Codes.{Movable, putTwo}
 use borrow.Author.Needs.{needs}
 use Rattle.codes.proofs.answer_move.Statement.{statement}

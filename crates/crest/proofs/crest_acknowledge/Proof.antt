@@ -5,7 +5,7 @@ use mathlib.Core.Path.{sym, ap, _∙_}
 use denote.Ref.{now}
 use Rattle.model.specs.declared.Run.{Run}
 use Rattle.model.specs.Run.{acknowledged, runBytes}
-use Rattle.readings.proofs.Calls.{acknowledge-18, acknowledge-0}
+use Rattle.run.proofs.Calls.{acknowledge-18, acknowledge-0}
 use borrow.Author.Needs.{needs}
 use Rattle.crest.proofs.crest_acknowledge.Statement.{statement}
 use Rattle.crest.proofs.crest_acknowledge.Tie as tie

@@ -13,10 +13,10 @@ use Rattle.model.specs.Answers.{code}
 use Rattle.model.specs.Readings.{answerTo, paperOfReading}
 use Rattle.model.specs.Run.{isFull, counted, noted, shownOf, runAt, runBytes}
 use Rattle.sources.proofs.Sound.{file-sound}
-use Rattle.readings.proofs.Narrow.{stored}
-use Rattle.readings.proofs.Noting.{noted-counted}
-use Rattle.readings.proofs.Calls.{reading-18, reading-16, reading-counted}
-use Rattle.answers.proofs.Storable.{answer-storable}
+use Rattle.run.proofs.Narrow.{stored}
+use Rattle.run.proofs.Noting.{noted-counted}
+use Rattle.run.proofs.Calls.{reading-18, reading-16, reading-counted}
+use Rattle.readings.proofs.Storable.{answer-storable}
 use Rattle.codes.specs.Codes.{Small}
 use Rattle.codes.proofs.Readings.{answer-small}
 use Rattle.crest.proofs.note_reading.Statement.{statement}

@@ -4,8 +4,8 @@ use borrow.Author.Needs.{needs}
 use Rattle.model.specs.Crest.{fileCrest}
 use Rattle.model.specs.Readings.{displayOf}
 use Rattle.sources.proofs.Sound.{file-sound}
-use Rattle.readings.proofs.Narrow.{stored}
-use Rattle.answers.proofs.Storable.{answer-storable}
+use Rattle.run.proofs.Narrow.{stored}
+use Rattle.readings.proofs.Storable.{answer-storable}
 use Rattle.entries.proofs.display.Statement.{statement}
 use Rattle.entries.proofs.display.Tie as tie
 

@@ -6,8 +6,8 @@ use Rattle.model.specs.declared.Display.{Display}
 use Rattle.model.specs.Crest.{fileCrest}
 use Rattle.model.specs.Readings.{displayOf}
 use Rattle.sources.proofs.Sound.{file-sound}
-use Rattle.readings.proofs.Narrow.{stored}
-use Rattle.answers.proofs.Storable.{noted-storable}
+use Rattle.run.proofs.Narrow.{stored}
+use Rattle.readings.proofs.Storable.{noted-storable}
 use Rattle.entries.specs.Entries.{notedReading}
 use Rattle.entries.proofs.note.Statement.{statement}
 use Rattle.entries.proofs.note.Tie as tie

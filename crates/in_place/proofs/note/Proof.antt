@@ -1,5 +1,5 @@
 -- `in_place::note` meets its contract: a walk of its MIR, by hand. The borrow is opened, the run behind it is copied and passed to
--- `answers::note_file` with the crest and the reading, the run that comes back is stored, the borrow is closed at it, and the answer is returned.
+-- `readings::note_file` with the crest and the reading, the run that comes back is stored, the borrow is closed at it, and the answer is returned.
 -- Assumes nothing.
 use mathlib.Core.Path.{_≡_, refl, ap}
 use Prim.Native.Nat.{ℕ, zero}
@@ -58,10 +58,10 @@ use Rattle.model.proofs.ReadingAnswer as S
 use Rattle.model.proofs.ReadingAnswer.Laws as S′
 use Rattle.model.proofs.Run as T
 use Rattle.model.proofs.Run.Laws as T′
-use Rattle.answers.proofs.note_file as step
-use Rattle.answers.proofs.note_file.Symbol as step-def
-use Rattle.answers.proofs.note_file.Symbol.{name as #step}
-use Rattle.answers.proofs.note_file.Met as step-thm
+use Rattle.readings.proofs.note_file as step
+use Rattle.readings.proofs.note_file.Symbol as step-def
+use Rattle.readings.proofs.note_file.Symbol.{name as #step}
+use Rattle.readings.proofs.note_file.Met as step-thm
 use Rattle.in_place.proofs.note.Key.{name as #this}
 use Rattle.in_place.proofs.note as f
 use Rattle.in_place.proofs.note.Statement as stated
@@ -181,4 +181,4 @@ unfolding code.routine tablesOf
 note-spec 𝓤 H 𝓜 𝓖 𝓡 =
     entered 𝓤 H _ _ _ #this code.function (code.unfolded 𝓤 H 𝓜 𝓡)
     (meets 𝓤 H (𝓖 .A) (givenOf 𝓤 H 𝓜 𝓖) (𝓜 .mem) (𝓡 .run) (tablesOf 𝓤 H 𝓜 (tables 𝓤 H 𝓜 𝓡 code.env))
-    (cited 𝓤 H _ 𝓜 𝓡 code.env #step step-def.routine code.calls-answers·note-file (step-thm.met 𝓤 H 𝓜 𝓖 𝓡)))
+    (cited 𝓤 H _ 𝓜 𝓡 code.env #step step-def.routine code.calls-readings·note-file (step-thm.met 𝓤 H 𝓜 𝓖 𝓡)))

@@ -10,7 +10,7 @@ use mir.Syntax.{w64}
 use mir.Val.{toZ, ofZ}
 use mir.ValLaws.{toZ-ofZ}
 use denote.Ref.{now}
-use Rattle.readings.proofs.Narrow.{narrow-fits}
+use Rattle.run.proofs.Narrow.{narrow-fits}
 use Rattle.probes.specs.declared.Reply.{Reply}
 use Rattle.codes.specs.Codes.{putTwo}
 use Rattle.probes.specs.Replies.{replyCode, replyBytes, Sendable}

@@ -6,8 +6,11 @@ use lib.IntN.{ℤ, pos, negℤ, natAbs, _+ℤ_, _*ℤ_, +ℤ-idl}
 use mir.Facts.{toZ-ofZ}
 use mir.Syntax.{w64}
 use mir.Val.{SFits}
+use Rattle.integers.specs.Signs.{withSign, signOf}
 use Rattle.integers.proofs.Ring.{neg-*ℤ}
 use Rattle.integers.proofs.Abs.{natAbs-neg}
+use Rattle.integers.proofs.Signed.{natAbs-sign, *ℤ-sign, sign-*ℤ, sign-move, magnitude-at-most}
+use Rattle.integers.proofs.Held.{held, held-small, held-as}
 use Rattle.model.proofs.Accepted.{numbers}
 use Rattle.model.specs.declared.Kind.{Kind}
 use Rattle.model.specs.declared.Kind.the-variants.{Line, Arc, EntrySpiral, ExitSpiral}
@@ -18,12 +21,9 @@ use Rattle.model.specs.Series.{cosine, sine, angleOf, directionOf, lengthAt, an
 use Rattle.elements.specs.declared.Prepared.{Prepared}
 use Rattle.elements.specs.declared.series.Reach.{Reach}
 use Rattle.elements.specs.declared.series.Turn.{Turn}
-use Rattle.elements.specs.Signs.{withSign, signOf}
 use Rattle.elements.specs.Prepared.{backward, preparedOf, Ready}
 use Rattle.elements.specs.Reached.{Turnable, Near, TurnAt, Reached, ReachedBy, of, elementIn, pointOf, headingOf}
-use Rattle.elements.proofs.Widths.{held, held-small, held-as}
-use Rattle.elements.proofs.Signed.{natAbs-sign, *ℤ-sign, sign-*ℤ, sign-move}
-use Rattle.elements.proofs.Extent.{magnitude-at-most, unit-within, unit-within′, cosine-within, sine-within, extent}
+use Rattle.elements.proofs.Extent.{unit-within, unit-within′, cosine-within, sine-within, extent}
 use Rattle.elements.proofs.Preparing.{negative-is}
 
 -- ---- a coordinate through 64 bits

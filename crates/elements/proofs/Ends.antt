@@ -60,8 +60,10 @@ abbrev point : ℤ → ℤ → Point
 point x y = record { x = x; y = y }
 
 turned-here : (c s : ℤ) → turned c s here ≡ point (pos 0) (pos 0)
-unfolding turned near
-turned-here c s = ap₂ (λ (a b : ℤ). point (near (a -ℤ b) ONE) (near (b +ℤ a) ONE)) (*ℤ-zero c) (*ℤ-zero s)
+unfolding turned
+turned-here c s =
+    ap₂ (λ (a b : ℤ). point (near (a -ℤ b) ONE) (near (b +ℤ a) ONE)) (*ℤ-zero c) (*ℤ-zero s)
+    ∙ ap (λ (z : ℤ). point z z) (near-multiple {d = ONE} (omega arith) (pos 0))
 
 turned-ahead : (c s : ℤ) → turned c s ahead ≡ point c s
 unfolding turned

@@ -1,6 +1,6 @@
 -- How large the numbers of an element are at a station. Rounding keeps a bound that is a multiple of the divisor, and the factors and the angle are
 -- in the ranges of `Factor` and `Angle`.
-use mathlib.Core.Path.{_≡_, ap, subst}
+use mathlib.Core.Path.{subst}
 use Prim.Native.Nat.{ℕ, _+_, _*_, _^_, _<_, _≤_}
 use native.Mathlib.Omega.{arith}
 use native.Mathlib.Nat.{mul-le-mul, mul-le-mul-left, mul-le-mul-right, le-of-eq, le-trans, lt-of-le-of-lt}
@@ -19,24 +19,10 @@ use Rattle.model.specs.Acceptance.{frame}
 use Rattle.model.specs.Stations.{distanceSq}
 use Rattle.model.specs.Accepted.{Accepted}
 use Rattle.model.proofs.Accepted.{numbers}
-use Rattle.elements.specs.Signs.{withSign}
+use Rattle.rounding.proofs.Sizes.{near-within, near-turn}
 use Rattle.elements.specs.Extent.{widestPosition, Extent}
-use Rattle.elements.proofs.Errors.{near-within}
 use Rattle.elements.proofs.Angle.{squareOf-square, lengthAt-within, angleAt-within}
 use Rattle.elements.proofs.Factor.{Proper, F-within}
-use Rattle.elements.proofs.Signed.{natAbs-sign}
-
--- ---- magnitudes
-
--- near(±n, d) is at most k in magnitude where n ≤ d · k
-pub near-at-most : (sign n d q k : ℕ) → 0 < d → withSign sign (pos q) ≡ near (withSign sign (pos n)) d → n ≤ d * k → q ≤ k
-near-at-most sign n d q k h e b =
-    let w = near-within h (withSign sign (pos n)) (le-trans (le-of-eq (natAbs-sign sign (pos n))) b) in
-    omega (arith, natAbs-sign sign (pos q), ap natAbs e, w)
-
--- a magnitude is as large as the number that it is of
-pub magnitude-at-most : (sign q : ℕ) {z : ℤ} {k : ℕ} → withSign sign (pos q) ≡ z → natAbs z ≤ k → q ≤ k
-magnitude-at-most sign q e h = omega (arith, natAbs-sign sign (pos q), ap natAbs e, h)
 
 -- ---- the series
 
@@ -125,16 +111,6 @@ pub unit-within′ : (a b : ℤ) → natAbs (a *ℤ a +ℤ b *ℤ b -ℤ pos (2 
 unit-within′ a b h = unit-within b a (subst (λ (z : ℤ). natAbs (z -ℤ pos (2 ^ 60)) ≤ 2 ^ 31) (+ℤ-comm (a *ℤ a) (b *ℤ b)) h)
 
 -- ---- in the plane
-
--- a rounded sum of two products with factors up to r · ONE
-pub near-turn : (r : ℕ) (a u b v : ℤ) {j k : ℕ} → natAbs a ≤ r * ONE → natAbs b ≤ r * ONE → natAbs u ≤ j → natAbs v ≤ k → (natAbs (near (a *ℤ u -ℤ b *ℤ v) ONE) ≤ r * (j + k)) × (natAbs (near (a *ℤ u +ℤ b *ℤ v) ONE) ≤ r * (j + k))
-near-turn r a u b v {j} {k} ha hb hu hv =
-    let x = a *ℤ u in
-    let y = b *ℤ v in
-    let first : natAbs x ≤ r * ONE * j = omega (arith, natAbs-* a u, mul-le-mul ha hu) in
-    let second : natAbs y ≤ r * ONE * k = omega (arith, natAbs-* b v, mul-le-mul hb hv) in
-    let both : natAbs x + natAbs y ≤ ONE * (r * (j + k)) = omega arith in
-    (near-within {d = ONE} (omega arith) (x -ℤ y) (le-trans (natAbs-- x y) both), near-within {d = ONE} (omega arith) (x +ℤ y) (le-trans (natAbs-+ x y) both))
 
 distance-small : (p q : Point) → natAbs (p .x) ≤ frame → natAbs (p .y) ≤ frame → natAbs (q .x) ≤ widestPosition → natAbs (q .y) ≤ widestPosition → distanceSq p q < 2 ^ 62
 unfolding distanceSq

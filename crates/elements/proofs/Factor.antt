@@ -14,7 +14,8 @@ use Rattle.integers.proofs.Written.{writing, identity, identityℕ}
 use Rattle.model.specs.Rounding.{ONE, near}
 use Rattle.model.specs.Series.{Factor, factor, F, squareOf}
 use Rattle.model.specs.Bound.{Fraction, threeTerms}
-use Rattle.elements.proofs.Errors.{sized, plain, 2′, 4′, ONE′, _⊞_, _⊟_, _⊠_, _·_, error-by, twice-error, 0≤-near, near-within}
+use Rattle.rounding.proofs.Sizes.{twice-error, 0≤-near, near-within}
+use Rattle.elements.proofs.Errors.{sized, plain, 2′, 4′, ONE′, _⊞_, _⊟_, _⊠_, _·_, error-by}
 use Rattle.elements.proofs.Angle.{Turn, Square, angle, square-numerator, angle-square, angle-square-error}
 
 -- what every F(a; b, d) in use has

@@ -2,8 +2,10 @@
 use mathlib.Core.Path.{_≡_, refl, sym, _∙_, ap, ap₂, subst}
 use Prim.Native.Nat.{ℕ, _+_, _-_, _*_, _/_, _^_, _<_, _≤_}
 use native.Mathlib.Omega.{arith}
-use native.Mathlib.Nat.{mul-assoc, mul-le-mul, div-add-mod, mod-lt}
-use lib.IntN.{ℤ, pos, natAbs}
+use native.Mathlib.Nat.{mul-assoc, mul-le-mul}
+use lib.IntN.{ℤ, pos, negsuc, natAbs}
+use Rattle.integers.specs.Signs.{withSign, signOf}
+use Rattle.integers.proofs.Signed.{sign-small, sign-zero, magnitude-at-most}
 use Rattle.model.specs.declared.Kind.{Kind}
 use Rattle.model.specs.declared.Kind.the-variants.{Line, Arc, EntrySpiral, ExitSpiral}
 use Rattle.model.specs.declared.Element.{Element}
@@ -12,15 +14,12 @@ use Rattle.model.specs.Rounding.{ONE, near}
 use Rattle.model.specs.Series.{Series, arcSeries, spiralSeries, seriesAlong, seriesAside, signedBy, angleOf, localOf, fromAnchor, lengthAt, angleAt, localAt}
 use Rattle.model.specs.Accepted.{Accepted}
 use Rattle.model.proofs.Accepted.{RadiusFits, numbers}
+use Rattle.rounding.proofs.Quotients.{near-even, near-halves}
 use Rattle.elements.specs.declared.Prepared.{Prepared}
-use Rattle.elements.specs.Signs.{withSign, signOf}
 use Rattle.elements.specs.Prepared.{divisorOf, backward, preparedOf, Ready}
 use Rattle.elements.specs.Reached.{Curved, SeriesAt, Reached}
 use Rattle.elements.specs.declared.series.Reach.{Reach}
-use Rattle.elements.proofs.Signed.{signed-by, sign-small, sign-zero}
 use Rattle.elements.proofs.Angle.{angleAt-within}
-use Rattle.elements.proofs.Extent.{magnitude-at-most}
-use Rattle.elements.proofs.Steps.{near-magnitude, near-even}
 
 pub ready : {e : Element} → Accepted e → Ready (preparedOf e)
 unfolding preparedOf
@@ -30,6 +29,12 @@ ready a = record { accepted = a; prepared = refl }
 pub prepared-element : (e : Element) {p : Prepared} → p ≡ preparedOf e → p .element ≡ e
 unfolding preparedOf
 prepared-element e q = ap (λ (p : Prepared). p .element) q
+
+-- a number with the sign of the radius
+signed-by : (radius : ℤ) (n : ℕ) → signedBy radius n ≡ withSign (signOf radius) (pos n)
+unfolding signedBy withSign signOf
+signed-by (pos r) n = refl
+signed-by (negsuc r) n = refl
 
 -- ---- what a kind says
 
@@ -88,15 +93,6 @@ module _ (e : Element) (s : ℕ) where
 
 -- ---- the angle
 
--- on an arc of radius r, n over r, in halves
-arc-quotient : (sign n r : ℕ) → sign ≤ 1 → 0 < r → withSign sign (pos ((2 * n + (r - sign)) / (2 * r))) ≡ near (withSign sign (pos n)) r
-arc-quotient sign n r s h =
-    let m = 2 * n + (r - sign) in
-    let q = m / (2 * r) in
-    let e = div-add-mod m (2 * r) in
-    let l = mod-lt m {m = 2 * r} (omega arith) in
-    near-magnitude sign n r q s h (omega (arith, mul-assoc 2 r q)) (omega (arith, mul-assoc 2 r q))
-
 module _ (p : Prepared) (y : Ready p) where
   abbrev e : Element
   e = p .element
@@ -145,7 +141,7 @@ module _ (p : Prepared) (y : Ready p) where
     arc-near : withSign (p .negative) (pos arcAngle) ≡ near (withSign (p .negative) (pos (ONE * s))) radius
     arc-near =
         ap₂ (λ (a d : ℕ). withSign (p .negative) (pos ((2 * (ONE * s) + a) / d))) arc-half arc-divisor
-        ∙ arc-quotient (p .negative) (ONE * s) radius sign-at-most (omega (arith, numbers (y .accepted) .shortest, arc-radius))
+        ∙ near-halves (p .negative) (ONE * s) radius sign-at-most (omega (arith, numbers (y .accepted) .shortest, arc-radius))
 
     pub arc-angle-is : withSign (p .negative) (pos arcAngle) ≡ angleAt e s
     unfolding angleOf fromAnchor

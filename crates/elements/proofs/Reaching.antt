@@ -2,6 +2,7 @@
 use mathlib.Core.Path.{_≡_, _∙_, ap}
 use Prim.Native.Nat.{ℕ, _+_, _*_, _/_, _^_, _<_, _≤_}
 use lib.IntN.{pos}
+use Rattle.integers.specs.Signs.{withSign}
 use Rattle.model.specs.declared.Kind.{Kind}
 use Rattle.model.specs.declared.Kind.the-variants.{Line, Arc}
 use Rattle.model.specs.Acceptance.{longestElement, widest}
@@ -9,7 +10,6 @@ use Rattle.model.specs.Rounding.{ONE}
 use Rattle.model.specs.Series.{Series, arcSeries, spiralSeries, angleAt}
 use Rattle.model.proofs.Accepted.{numbers}
 use Rattle.elements.specs.declared.Prepared.{Prepared}
-use Rattle.elements.specs.Signs.{withSign}
 use Rattle.elements.specs.Prepared.{Ready}
 use Rattle.elements.specs.Reached.{Curved, SeriesAt, Reached, Reachable, of, elementIn}
 use Rattle.elements.specs.declared.series.Reach.{Reach}

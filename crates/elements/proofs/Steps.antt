@@ -1,54 +1,18 @@
--- The steps of the series on magnitudes: a rounded quotient of ±n is a quotient of n rounded down, with the sign put back.
+-- The steps of the series on magnitudes: each number of the code, with the sign put back, is that of the definitions.
 use mathlib.Core.Path.{_≡_, sym, _∙_, ap}
-use Prim.Native.Nat.{ℕ, zero, suc, _+_, _-_, _*_, _/_, _%_, _^_, _<_, _≤_}
-use native.Mathlib.Omega.{arith}
-use native.Mathlib.Nat.{div-add-mod, mod-lt}
-use lib.IntN.{ℤ, pos, negℤ, _+ℤ_, _-ℤ_, _*ℤ_}
-use Rattle.integers.specs.Floor.{floorDiv}
-use Rattle.integers.proofs.Ring.{*ℤ-neg, *ℤ-add}
-use Rattle.integers.proofs.Floor.{floor-scale}
-use Rattle.integers.proofs.Order.{order, sum, negation, multiple}
+use Prim.Native.Nat.{ℕ, _-_, _*_, _≤_}
+use lib.IntN.{pos, _-ℤ_, _*ℤ_}
+use Rattle.integers.specs.Signs.{withSign}
+use Rattle.integers.proofs.Order.{order, difference}
+use Rattle.integers.proofs.Signed.{*ℤ-sign, sign-*ℤ, sign-square}
 use Rattle.model.specs.Rounding.{ONE, near}
-use Rattle.model.proofs.Rounding.{near-unique}
 use Rattle.model.specs.Series.{Factor, F, Series, squareOf, seriesAlong, seriesAside, cosine, sine, cosineFactor, sineFactor}
-use Rattle.elements.specs.Signs.{withSign}
 use Rattle.elements.specs.Reached.{SeriesAt, TurnAt}
 use Rattle.elements.specs.declared.series.Reach.{Reach}
 use Rattle.elements.specs.declared.series.Turn.{Turn}
-use Rattle.elements.proofs.Signed.{*ℤ-sign, sign-*ℤ, sign-square, pos-sub}
 
--- q is the magnitude of near(±n, d): 2·d·q is between 2·n − d and 2·n + d, and a half of −n goes down
-pub near-magnitude : (sign n d q : ℕ) → sign ≤ 1 → 0 < d → 2 * (d * q) + sign ≤ 2 * n + d → 2 * n + d < 2 * (d * q) + 2 * d + sign → withSign sign (pos q) ≡ near (withSign sign (pos n)) d
-unfolding withSign
-near-magnitude zero n d q s h low high =
-    near-unique h (record { low = omega order; high = omega order })
-near-magnitude (suc zero) n d q s h low high =
-    let e = *ℤ-neg (pos d) (pos q) in
-    let x = negation (pos (d * q)) in
-    let y = negation (pos n) in
-    let two = multiple 2 (pos d *ℤ negℤ (pos q)) in
-    let twice = multiple 2 (negℤ (pos n)) in
-    near-unique h
-    (record {
-      low = omega (order, e, sum (pos 2 *ℤ negℤ (pos n)) (pos d));
-      high = omega (order, e, sum (pos 2 *ℤ (pos d *ℤ negℤ (pos q))) (pos d));
-    })
-near-magnitude (suc (suc k)) n d q s h low high = absurd (omega arith)
-
--- for an even d
-pub near-even : (sign n d : ℕ) → sign ≤ 1 → 1 < d → d % 2 ≡ 0 → withSign sign (pos ((n + d / 2 - sign) / d)) ≡ near (withSign sign (pos n)) d
-near-even sign n d s h even =
-    let m = n + d / 2 - sign in
-    let e = div-add-mod m d in
-    let r = mod-lt m {m = d} (omega arith) in
-    near-magnitude sign n d (m / d) s (omega arith) (omega arith) (omega arith)
-
--- for any n, and ONE
-pub near-shift : (n : ℤ) → floorDiv (n +ℤ pos (2 ^ 29)) (2 ^ 30) ≡ near n ONE
-unfolding near
-near-shift n = sym (floor-scale {k = 2} {d = 2 ^ 30} (omega arith) (omega arith) (n +ℤ pos (2 ^ 29))) ∙ ap (λ x. floorDiv x (2 ^ 31)) (*ℤ-add (pos 2) n (pos (2 ^ 29)))
-
--- ---- the series on magnitudes
+pos-sub : {m n : ℕ} → m ≤ n → pos (n - m) ≡ pos n -ℤ pos m
+pos-sub {m} {n} h = omega (order, difference (pos n) (pos m))
 
 pub factor-step : (f : Factor) (p x y : ℕ) → x ≤ ONE → y ≤ ONE → pos x ≡ near (pos (f .b * p)) (f .d) → pos y ≡ near (pos (p * (ONE - x))) (f .a * ONE) → pos (ONE - y) ≡ F f (pos p)
 unfolding F
@@ -62,11 +26,11 @@ unfolding squareOf
 square-sign sign angle = ap (λ z. near z ONE) (sym (sign-square sign (pos angle)))
 
 -- near of a product of magnitudes, signed by one of them
-pub near-product : (sign m n d r : ℕ) → withSign sign (pos r) ≡ near (withSign sign (pos (m * n))) d → withSign sign (pos r) ≡ near (pos m *ℤ withSign sign (pos n)) d
-near-product sign m n d r e = e ∙ ap (λ z. near z d) (sym (*ℤ-sign sign (pos m) (pos n)))
+pub near-times : (sign m n d r : ℕ) → withSign sign (pos r) ≡ near (withSign sign (pos (m * n))) d → withSign sign (pos r) ≡ near (pos m *ℤ withSign sign (pos n)) d
+near-times sign m n d r e = e ∙ ap (λ z. near z d) (sym (*ℤ-sign sign (pos m) (pos n)))
 
-pub near-product′ : (sign m n d r : ℕ) → withSign sign (pos r) ≡ near (withSign sign (pos (m * n))) d → withSign sign (pos r) ≡ near (withSign sign (pos m) *ℤ pos n) d
-near-product′ sign m n d r e = e ∙ ap (λ z. near z d) (sym (sign-*ℤ sign (pos m) (pos n)))
+pub near-times′ : (sign m n d r : ℕ) → withSign sign (pos r) ≡ near (withSign sign (pos (m * n))) d → withSign sign (pos r) ≡ near (withSign sign (pos m) *ℤ pos n) d
+near-times′ sign m n d r e = e ∙ ap (λ z. near z d) (sym (sign-*ℤ sign (pos m) (pos n)))
 
 module _ (sign angle square : ℕ) (p : pos square ≡ squareOf (pos angle)) where
   at-angle : {f : ℕ} (k : Factor) → pos f ≡ F k (pos square) → pos f ≡ F k (squareOf (withSign sign (pos angle)))
@@ -87,5 +51,5 @@ module _ (sign angle square : ℕ) (p : pos square ≡ squareOf (pos angle)) whe
   turn-at f r ef c s =
       record {
         along = at-angle cosineFactor c;
-        aside = near-product′ sign angle f ONE (r .sine) s ∙ ap (λ z. near (withSign sign (pos angle) *ℤ z) ONE) (at-angle sineFactor ef);
+        aside = near-times′ sign angle f ONE (r .sine) s ∙ ap (λ z. near (withSign sign (pos angle) *ℤ z) ONE) (at-angle sineFactor ef);
       }

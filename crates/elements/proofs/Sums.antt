@@ -14,7 +14,8 @@ use Rattle.model.specs.Acceptance.{longestElement}
 use Rattle.model.specs.Rounding.{ONE, near}
 use Rattle.model.specs.Series.{factor, F, squareOf}
 use Rattle.model.specs.Bound.{Fraction, fraction, Within2, alongSum, asideSum}
-use Rattle.elements.proofs.Errors.{sized, plain, 2′, 4′, ONE′, _⊞_, _⊠_, _·_, error-by, twice-error}
+use Rattle.rounding.proofs.Sizes.{twice-error}
+use Rattle.elements.proofs.Errors.{sized, plain, 2′, 4′, ONE′, _⊞_, _⊠_, _·_, error-by}
 use Rattle.elements.proofs.Angle.{Turn, angle, angle-error}
 use Rattle.elements.proofs.Factor.{ThreeTerm, Close, F-close}
 
@@ -67,11 +68,11 @@ pub once-exact : (x : ℤ) → natAbs (pos 1 *ℤ x -ℤ x) ≡ 0
 once-exact x = ap natAbs (ap (λ y. y -ℤ x) (one-*ℤ x) ∙ +ℤ-invr x)
 
 -- near(x·G, k·ONE) is within 2 of X·S/E, where x is close enough to X/y
-near-product : (k y : ℕ) (x X : ℤ) {G S : ℤ} {D E : ℕ} → Close G S D → 0 < k → E ≡ k * y * D →
+product-within : (k y : ℕ) (x X : ℤ) {G S : ℤ} {D E : ℕ} → Close G S D → 0 < k → E ≡ k * y * D →
     2 * (ONE * natAbs (pos y *ℤ x -ℤ X) + natAbs X) ≤ k * y * ONE →
     Within2 (near (x *ℤ G) (k * ONE)) (fraction (X *ℤ S) E)
 unfolding Within2
-near-product k y x X {G} {S} {D} close h e small =
+product-within k y x X {G} {S} {D} close h e small =
     rw e (omega (arith, product-error k y D x X G S (near (x *ℤ G) (k * ONE)) close (twice-error (mul-pos h (omega arith)) (x *ℤ G)) small))
 
 -- for F(c·b; b, d)
@@ -80,7 +81,7 @@ module _ {c b d : ℕ} (h : ThreeTerm c b d) {φ : Fraction} (turn : Turn φ) {z
   unfolding alongSum
   near-along =
       let x = pos (100 * z) in
-      near-product 1 1 x x (F-close h turn) (omega arith) (omega arith) (omega (arith, once-exact x))
+      product-within 1 1 x x (F-close h turn) (omega arith) (omega arith) (omega (arith, once-exact x))
 
   pub near-aside : (k : ℕ) → 2 ≤ k → Within2 (near (near (pos (100 * z) *ℤ angle φ) ONE *ℤ F (factor (c * b) b d) (squareOf (angle φ))) (k * ONE)) (asideSum k (c * b) (c * d) z (φ .numerator) (φ .denominator))
   unfolding asideSum
@@ -91,6 +92,6 @@ module _ {c b d : ℕ} (h : ThreeTerm c b d) {φ : Fraction} (turn : Turn φ) {z
       let w = near (pos n *ℤ angle φ) ONE in
       let close = width-error q n m (angle φ) w (omega arith) (angle-error turn) (twice-error {d = ONE} (omega arith) (pos n *ℤ angle φ)) in
       let quarter = natAbs-* (pos 4) (pos q *ℤ w -ℤ pos n *ℤ m) in
-      near-product k q w (pos n *ℤ m) (F-close h turn) (omega arith)
+      product-within k q w (pos n *ℤ m) (F-close h turn) (omega arith)
       (identityℕ {ρ = pos k ∷ pos c ∷ pos b ∷ pos d ∷ pos q ∷ []} (search writing depth 20) (search writing depth 20) tt)
       (omega (arith, close, quarter, natAbs-* (pos n) m, mul-le-mul-left n (turn .half), mul-le-mul-left q short, mul-le-mul-left q several))

@@ -2,19 +2,19 @@
 use Prim.Native.Nat.{ℕ, _%_, _^_, _<_, _≤_}
 use mathlib.Core.Path.{_≡_}
 use lib.IntN.{ℤ, pos, natAbs}
+use Rattle.integers.specs.Signs.{withSign, signOf}
 use Rattle.model.specs.Acceptance.{longestElement, frame}
 use Rattle.model.specs.Rounding.{ONE}
 use Rattle.model.specs.Series as model
 use Rattle.model.specs.Series.{Series, seriesAlong, seriesAside, cosine, sine, angleAt, localAt, turned, movedBy}
 use Rattle.model.specs.declared.Element.{Element}
 use Rattle.model.specs.declared.Point.{Point}
+use Rattle.model.specs.declared.Kind.{Kind}
 use Rattle.elements.specs.declared.Placement.{Placement}
 use Rattle.elements.specs.declared.series.Reach.{Reach}
 use Rattle.elements.specs.declared.series.Factor.{Factor}
 use Rattle.elements.specs.declared.series.Numbers.{Numbers}
 use Rattle.elements.specs.declared.series.Turn.{Turn}
-use Rattle.elements.specs.Signs.{withSign, signOf}
-use Rattle.model.specs.declared.Kind.{Kind}
 use Rattle.elements.specs.declared.Prepared.{Prepared}
 use Rattle.elements.specs.Prepared.{backward, Ready}
 

@@ -1,6 +1,7 @@
 // Position and direction on one element, in 64 bits, equal to the definitions of `model` for every accepted element.
 // What depends on the element alone is prepared once; a station is then computed from magnitudes.
 use crate::series::Reach;
+use integers::signs;
 use model::Element;
 use model::Kind;
 use model::Point;
@@ -15,9 +16,7 @@ ghost use Rattle.model.specs.Series.{positionOn, tangentOn};
 ghost use Rattle.elements.specs.Prepared.{divisorOf, backward, preparedOf, Ready};
 ghost use Rattle.elements.specs.Reached.{Turnable, Near, Reachable, ReachedBy, pointOf, headingOf, placementOf};
 
-pub mod rounding;
 mod series;
-mod signs;
 
 // What depends on the element alone: the sign of the radius (1 where it is negative), the divisor of the angle with what
 // is added before the division, and the axes along which the magnitudes of u and of v count.

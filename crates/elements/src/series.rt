@@ -1,14 +1,14 @@
 // The series of document 01, "Position on an element", on magnitudes: no number on the way is negative.
-use crate::rounding::near_even;
 use model::units::GRAINS;
 use model::units::ONE;
+use rounding::near_even;
 ghost use mathlib.Core.Path.{_≡_};
 ghost use Prim.Native.Nat.{_+_, _*_, _/_, _^_, _<_, _≤_};
 ghost use lib.IntN.{pos, _*ℤ_};
 ghost use Rattle.model.specs.Acceptance.{longestElement};
 ghost use Rattle.model.specs.Rounding.{ONE, near};
 ghost use Rattle.model.specs.Series.{F, squareOf, arcSeries, spiralSeries};
-ghost use Rattle.elements.specs.Signs.{withSign};
+ghost use Rattle.integers.specs.Signs.{withSign};
 ghost use Rattle.elements.specs.Reached.{factorOf, seriesOf, Factorable, Curved, Usable, SeriesAt, TurnAt};
 
 // The numbers of F(a; b, d).

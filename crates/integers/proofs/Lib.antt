@@ -8,7 +8,8 @@ pub mod Linear
 pub mod Ranges
 pub mod Machine
 pub mod Floor
-pub mod Signs
+pub mod Signed
+pub mod Held
 pub mod Root
 pub mod Plane
 mod Shown

@@ -8,6 +8,7 @@ ghost use Rattle.integers.specs.Scaled.{Scalable};
 ghost use Rattle.integers.specs.Root.{root};
 
 mod guess;
+pub mod signs;
 
 // The absolute value, which of the least i64 is no i64.
 pub fn magnitude(z: i64) -> u64

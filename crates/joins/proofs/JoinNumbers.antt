@@ -5,7 +5,7 @@ use Prim.Native.Nat.{ℕ}
 use native.Mathlib.Omega.{arith}
 use lib.Dec.{leb}
 use lib.IntN.{ℤ, natAbs, _-ℤ_}
-use Rattle.elements.proofs.Widths.{held, held-small}
+use Rattle.integers.proofs.Held.{held, held-small}
 use Rattle.joins.specs.Joins.{Small}
 
 -- a test of a difference, made on numbers that were read back from 64 bits

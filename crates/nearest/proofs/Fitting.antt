@@ -16,7 +16,7 @@ use Rattle.model.specs.Stations.{positionAt, tangentAt, distanceSq, D}
 use Rattle.model.specs.Judged.{judged, residualOf, offsetOf, minus, residualAt, offsetAt}
 use Rattle.model.specs.Answers.{farthest, locatedOn}
 use Rattle.model.proofs.Judged.{judged-least}
-use Rattle.elements.proofs.Extent.{near-turn}
+use Rattle.rounding.proofs.Sizes.{near-turn}
 use Rattle.stations.proofs.StationExtent.{station-placeable}
 use Rattle.stations.proofs.StationTotal.{total-within}
 use Rattle.walk_laws.proofs.Outcomes.{answered}

@@ -1,8 +1,8 @@
 // How a point lies to a position and a direction: the residual along it and the offset to its left.
 use elements::Placement;
-use elements::rounding::near_sum;
 use model::Point;
 use model::limits;
+use rounding::near_sum;
 ghost use mathlib.Core.Bool.{_&&_};
 ghost use mathlib.Core.Path.{_≡_};
 ghost use lib.Dec.{eqb};

@@ -13,7 +13,8 @@ use Rattle.model.specs.Acceptance.{frame, unitSlack, inFrame, isUnit}
 use Rattle.model.specs.Rounding.{ONE, near}
 use Rattle.model.specs.Judged.{minus}
 use Rattle.model.specs.Answers.{answerIf, answerAfter, forwardOf, leftOf, moveRules, moveQuestion, stakeOut}
-use Rattle.elements.proofs.Extent.{near-turn, unit-within, unit-within′}
+use Rattle.rounding.proofs.Sizes.{near-turn}
+use Rattle.elements.proofs.Extent.{unit-within, unit-within′}
 use Rattle.records.proofs.Frame.{framed}
 use Rattle.stakes.specs.StakeRanges.{Stakeable}
 

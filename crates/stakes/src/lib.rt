@@ -1,11 +1,11 @@
 // The stake-out: how far to move a stake to its target, forward along the heading and to the left of it.
-use elements::rounding::near_sum;
 use model::Move;
 use model::Point;
 use model::Refusal;
 use model::refusals;
 use records::in_frame;
 use records::is_unit;
+use rounding::near_sum;
 ghost use mathlib.Core.List.{[]};
 ghost use mathlib.Core.Path.{_≡_};
 ghost use Rattle.model.specs.Answers.{paperAfter, forwardOf, leftOf, moveQuestion, stakeOut, paperOfMove};

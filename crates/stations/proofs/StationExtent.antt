@@ -11,10 +11,10 @@ use Rattle.model.specs.Rounding.{ONE, near}
 use Rattle.model.specs.Stations.{total, positionAt, tangentAt}
 use Rattle.model.specs.Answers.{widestOffset}
 use Rattle.model.specs.Accepted.{AllAccepted}
+use Rattle.rounding.proofs.Sizes.{near-within}
 use Rattle.elements.specs.declared.Placement.{Placement}
 use Rattle.elements.specs.Reached.{placementOf}
 use Rattle.elements.specs.Extent.{Placeable}
-use Rattle.elements.proofs.Errors.{near-within}
 use Rattle.elements.proofs.Extent.{extent}
 use Rattle.stations.proofs.StationAt.{at-reachable}
 

@@ -6,7 +6,7 @@ use mir.Facts.{toZ-ofZ}
 use mir.Syntax.{w64}
 use mir.Val.{SFits}
 use Rattle.integers.proofs.Ranges.{fits-below}
-use Rattle.elements.proofs.Widths.{held, held-as}
+use Rattle.integers.proofs.Held.{held, held-as}
 
 -- f of x and m, which are y and n, through their bits
 pub record Computed (f : ℤ → ℤ → ℤ) (y n x m : ℤ) : Type 0 where

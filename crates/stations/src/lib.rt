@@ -1,6 +1,5 @@
 // Stations of an accepted crest: how far they run, where one lies, and what is asked by station.
 use elements::Placement;
-use elements::rounding::near_one;
 use integers::magnitude;
 use model::Element;
 use model::Inverse;
@@ -10,6 +9,7 @@ use model::Refusal;
 use model::limits;
 use model::refusals;
 use records::in_frame;
+use rounding::near_one;
 use sources::Form;
 use sources::count_in;
 use sources::element_in;

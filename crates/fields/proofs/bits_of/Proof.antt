@@ -1,5 +1,5 @@
 -- `fields::bits_of` meets its contract, by the number's sign.
-use Rattle.integers.proofs.Signs.{not-negative, negative, complement-casts}
+use Rattle.integers.proofs.Signed.{not-negative, negative, complement-casts}
 use Rattle.fields.proofs.bits_of.Statement.{statement}
 use Rattle.fields.proofs.bits_of.Tie as tie
 

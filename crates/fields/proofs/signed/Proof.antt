@@ -3,7 +3,7 @@ use borrow.Author.Needs.{needs}
 use mathlib.Core.Path.{ap}
 use mir.Syntax.{w32}
 use mir.Val.{toZ}
-use Rattle.integers.proofs.Signs.{complement-twice}
+use Rattle.integers.proofs.Signed.{complement-twice}
 use Rattle.fields.proofs.signed.Statement.{statement}
 use Rattle.fields.proofs.signed.Tie as tie
 

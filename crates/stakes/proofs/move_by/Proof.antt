@@ -5,12 +5,12 @@ use lib.IntN.{ℤ, pos, negℤ, _+ℤ_, _-ℤ_, _*ℤ_}
 use mir.Facts.{toZ-ofZ}
 use mir.Syntax.{w64}
 use Rattle.integers.proofs.Machine.{Env, env, machine, fits-machine, by-machine, abs-machine}
+use Rattle.integers.proofs.Held.{held}
 use Rattle.model.specs.Rounding.{ONE, near}
 use Rattle.model.specs.Acceptance.{frame}
 use Rattle.model.specs.Judged.{minus}
 use Rattle.model.specs.Answers.{forwardOf, leftOf}
-use Rattle.elements.specs.Rounded.{Summable}
-use Rattle.elements.proofs.Widths.{held}
+use Rattle.rounding.specs.Rounded.{Summable}
 use Rattle.stakes.proofs.move_by.Statement.{statement}
 use Rattle.stakes.proofs.move_by.Tie as tie
 

@@ -8,13 +8,13 @@ use lib.Dec.{leb}
 use lib.IntN.{ℤ, natAbs}
 use mir.Facts.{toZ-ofZ}
 use mir.Syntax.{w64}
+use Rattle.integers.proofs.Held.{held}
 use Rattle.model.specs.declared.Element.{Element}
 use Rattle.model.specs.declared.Point.{Point}
 use Rattle.model.specs.Acceptance.{inFrame}
 use Rattle.model.specs.Stations.{isStation}
 use Rattle.model.specs.Answers.{widestOffset, inverseAt}
 use Rattle.model.proofs.Answers.{told, place-tells}
-use Rattle.elements.proofs.Widths.{held}
 use Rattle.sources.specs.Sources.{elementsLent}
 use Rattle.stations.proofs.StationRange.{station-within, held-casts}
 use Rattle.stations.proofs.InverseAnswers.{inverse-off-line, inverse-outside, inverse-inside}

@@ -6,6 +6,7 @@ use Prim.Native.Nat.{_≤_, _<_, _^_}
 use borrow.Author.Needs.{needs}
 use lib.IntN.{ℤ, natAbs, _+ℤ_, _-ℤ_, _*ℤ_}
 use Rattle.integers.proofs.Abs.{natAbs-+, natAbs--}
+use Rattle.integers.proofs.Held.{held, held-small, held-as, natAbs-held}
 use Rattle.model.specs.declared.Element.{Element}
 use Rattle.model.specs.declared.Point.{Point}
 use Rattle.model.specs.Rounding.{ONE, near}
@@ -14,7 +15,6 @@ use Rattle.model.specs.Answers.{widestOffset, inverseAt}
 use Rattle.elements.specs.declared.Placement.{Placement}
 use Rattle.elements.specs.Reached.{placementOf}
 use Rattle.elements.specs.Extent.{Placeable}
-use Rattle.elements.proofs.Widths.{held, held-small, held-as, natAbs-held}
 use Rattle.sources.specs.Sources.{elementsLent}
 use Rattle.stations.proofs.StationExtent.{station-placeable, near-aside-within}
 use Rattle.stations.proofs.StationHeld.{Computed, computed}

@@ -3,10 +3,10 @@ use Prim.Native.Nat.{_-_, _*_, _≤_}
 use native.Mathlib.Omega.{arith}
 use native.Mathlib.Nat.{mul-le-mul}
 use borrow.Author.Needs.{needs}
+use Rattle.integers.specs.Signs.{withSign}
 use Rattle.model.specs.Rounding.{ONE}
-use Rattle.elements.specs.Signs.{withSign}
+use Rattle.rounding.proofs.Sizes.{near-at-most}
 use Rattle.elements.specs.Reached.{factorOf}
-use Rattle.elements.proofs.Extent.{near-at-most}
 use Rattle.elements.proofs.Steps.{factor-step}
 use Rattle.elements.proofs.series.factor_of.Statement.{statement}
 use Rattle.elements.proofs.series.factor_of.Tie as tie

@@ -6,14 +6,14 @@ use native.Mathlib.Nat.{le-of-lt}
 use lib.IntN.{ℤ, pos, _+ℤ_, _-ℤ_, _*ℤ_}
 use mir.Facts.{toZ-ofZ}
 use Rattle.integers.proofs.Machine.{Env, env, machine, fits-machine, by-machine, abs-machine}
+use Rattle.integers.proofs.Held.{held}
 use Rattle.model.specs.declared.Point.{Point}
 use Rattle.model.specs.Rounding.{ONE, near}
 use Rattle.model.specs.Acceptance.{frame}
 use Rattle.model.specs.Judged.{residualOf, offsetOf, minus}
+use Rattle.rounding.specs.Rounded.{Summable}
 use Rattle.elements.specs.declared.Placement.{Placement}
 use Rattle.elements.specs.Extent.{widestPosition, Placeable}
-use Rattle.elements.specs.Rounded.{Summable}
-use Rattle.elements.proofs.Widths.{held}
 use Rattle.walk.specs.Search.{InFrame}
 use Rattle.nearest.specs.Sides.{sidesOf}
 use Rattle.nearest.proofs.sides.to_point.Statement.{statement}

@@ -5,12 +5,12 @@ use native.Mathlib.Omega.{arith}
 use lib.IntN.{ℤ, natAbs, _-ℤ_}
 use borrow.Author.Needs.{needs}
 use Rattle.integers.specs.Plane.{squared}
+use Rattle.integers.proofs.Held.{held, held-small, held-as, natAbs-held}
 use Rattle.model.specs.declared.Point.{Point}
 use Rattle.model.specs.Acceptance.{frame}
 use Rattle.model.specs.Stations.{distanceSq}
 use Rattle.elements.specs.Extent.{widestPosition}
 use Rattle.elements.proofs.Extent.{extent}
-use Rattle.elements.proofs.Widths.{held, held-small, held-as, natAbs-held}
 use Rattle.walk.proofs.visit.distance.Statement.{statement}
 use Rattle.walk.proofs.visit.distance.Tie as tie
 

@@ -11,9 +11,9 @@ use mir.Syntax.{w64}
 use mir.Val.{Fits}
 use Rattle.integers.proofs.Abs.{natAbs--, square-natAbs}
 use Rattle.integers.proofs.Machine.{Env, env, machine, fits-machine, by-machine}
+use Rattle.integers.proofs.Held.{held}
 use Rattle.model.specs.Acceptance.{frame}
 use Rattle.elements.specs.Extent.{widestPosition}
-use Rattle.elements.proofs.Widths.{held}
 use Rattle.walk.proofs.visit.squared_gap.Statement.{statement}
 use Rattle.walk.proofs.visit.squared_gap.Tie as tie
 

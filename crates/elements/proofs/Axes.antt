@@ -9,7 +9,7 @@ use mir.Val.{SFits}
 use Rattle.integers.specs.Signs.{withSign, signOf}
 use Rattle.integers.proofs.Ring.{neg-*ℤ}
 use Rattle.integers.proofs.Abs.{natAbs-neg}
-use Rattle.integers.proofs.Signed.{natAbs-sign, *ℤ-sign, sign-*ℤ, sign-move, magnitude-at-most}
+use Rattle.integers.proofs.Signed.{natAbs-sign, sign-small, *ℤ-sign, sign-*ℤ, sign-move, magnitude-at-most}
 use Rattle.integers.proofs.Held.{held, held-small, held-as}
 use Rattle.model.proofs.Accepted.{numbers}
 use Rattle.model.specs.declared.Kind.{Kind}
@@ -18,13 +18,14 @@ use Rattle.model.specs.declared.Element.{Element}
 use Rattle.model.specs.Rounding.{ONE, near}
 use Rattle.model.specs.Acceptance.{frame}
 use Rattle.model.specs.Series.{cosine, sine, angleOf, directionOf, lengthAt, angleAt, directionAt, turned, movedBy, positionOn, tangentOn}
+use Rattle.rounding.specs.Rounded.{lowered}
 use Rattle.elements.specs.declared.Prepared.{Prepared}
 use Rattle.elements.specs.declared.series.Reach.{Reach}
 use Rattle.elements.specs.declared.series.Turn.{Turn}
 use Rattle.elements.specs.Prepared.{backward, preparedOf, Ready}
 use Rattle.elements.specs.Reached.{Turnable, Near, TurnAt, Reached, ReachedBy, of, elementIn, pointOf, headingOf}
 use Rattle.elements.proofs.Extent.{unit-within, unit-within′, cosine-within, sine-within, extent}
-use Rattle.elements.proofs.Preparing.{negative-is}
+use Rattle.elements.proofs.Preparing.{off-is}
 
 -- ---- a coordinate through 64 bits
 
@@ -130,12 +131,12 @@ module _ {p : Prepared} (y : Ready p) where
 
   -- ---- the direction
 
-  module _ {angle : ℕ} {d : Turn} (h : angle ≤ 2 ^ 29) (t : TurnAt angle (p .negative) d) where
+  module _ {angle : ℕ} {d : Turn} (h : angle ≤ 2 ^ 29) (t : (sign : ℕ) → sign ≤ 1 → lowered sign ≡ p .off → TurnAt angle sign d) where
     abbrev turn : ℤ
     turn = withSign sign (pos angle)
 
     turn-at : TurnAt angle sign d
-    turn-at = subst (λ (n : ℕ). TurnAt angle n d) (negative-is p y) t
+    turn-at = t sign (sign-small (e .radius)) (sym (off-is p y))
 
     turn-within : natAbs turn ≤ 2 ^ 29
     turn-within = omega (arith, natAbs-sign sign (pos angle), h)
@@ -184,7 +185,7 @@ direction-is EntrySpiral radius length l = refl
 direction-is ExitSpiral radius length l = refl
 
 -- what is reached at a station of an element that is prepared
-module _ {p : Prepared} {s : ℕ} {r : Reach} (asked : Ready p × (s ≤ p .element .length)) (told : ReachedBy (p .element .kind) (p .element .length) (p .negative) (p .divisor) (p .half) s r) where
+module _ {p : Prepared} {s : ℕ} {r : Reach} (asked : Ready p × (s ≤ p .element .length)) (told : ReachedBy (p .element .kind) (p .element .length) (p .off) (p .divisor) (p .half) s r) where
   is-reached : Reached (p .element) s r
   unfolding elementIn
   is-reached = told (of p s (asked .0) (asked .1))

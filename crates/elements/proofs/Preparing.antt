@@ -1,4 +1,4 @@
--- Preparing changes no number: the prepared divisor, half and sign give the angle of the definitions, and the series at it u and v.
+-- Preparing changes no number: the prepared divisor and half give the angle of the definitions, and the series at it u and v.
 use mathlib.Core.Path.{_≡_, refl, sym, _∙_, ap, ap₂, subst}
 use Prim.Native.Nat.{ℕ, _+_, _-_, _*_, _/_, _^_, _<_, _≤_}
 use native.Mathlib.Omega.{arith}
@@ -14,7 +14,8 @@ use Rattle.model.specs.Rounding.{ONE, near}
 use Rattle.model.specs.Series.{Series, arcSeries, spiralSeries, seriesAlong, seriesAside, signedBy, angleOf, localOf, fromAnchor, lengthAt, angleAt, localAt}
 use Rattle.model.specs.Accepted.{Accepted}
 use Rattle.model.proofs.Accepted.{RadiusFits, numbers}
-use Rattle.rounding.proofs.Quotients.{near-even, near-halves}
+use Rattle.rounding.specs.Rounded.{lowered}
+use Rattle.rounding.proofs.Quotients.{lowered-≤, near-even, near-halves}
 use Rattle.elements.specs.declared.Prepared.{Prepared}
 use Rattle.elements.specs.Prepared.{divisorOf, backward, preparedOf, Ready}
 use Rattle.elements.specs.Reached.{Curved, SeriesAt, Reached}
@@ -52,13 +53,13 @@ radius-within Arc length r = r .1
 radius-within EntrySpiral length r = r .1
 radius-within ExitSpiral length r = r .1
 
--- the sign is taken from half the divisor
-pub sign-fits : (k : Kind) {sign length radius : ℕ} → RadiusFits k length radius → sign ≤ radius → 1 ≤ length → sign ≤ divisorOf k radius length / 2
+-- what is at most the radius is at most half the divisor, and can be taken off
+pub off-fits : (k : Kind) {off length radius : ℕ} → RadiusFits k length radius → off ≤ radius → 1 ≤ length → off ≤ divisorOf k radius length / 2
 unfolding RadiusFits divisorOf
-sign-fits Line r s h = omega arith
-sign-fits Arc r s h = omega arith
-sign-fits EntrySpiral {length = l} {radius} r s h = omega (arith, mul-assoc 2 radius l, mul-le-mul {n₁ = radius} {m₁ = 1} {n₂ = radius} {m₂ = l} (omega arith) h)
-sign-fits ExitSpiral {length = l} {radius} r s h = omega (arith, mul-assoc 2 radius l, mul-le-mul {n₁ = radius} {m₁ = 1} {n₂ = radius} {m₂ = l} (omega arith) h)
+off-fits Line r s h = omega arith
+off-fits Arc r s h = omega arith
+off-fits EntrySpiral {length = l} {radius} r s h = omega (arith, mul-assoc 2 radius l, mul-le-mul {n₁ = radius} {m₁ = 1} {n₂ = radius} {m₂ = l} (omega arith) h)
+off-fits ExitSpiral {length = l} {radius} r s h = omega (arith, mul-assoc 2 radius l, mul-le-mul {n₁ = radius} {m₁ = 1} {n₂ = radius} {m₂ = l} (omega arith) h)
 
 -- the two kinds of spiral, and the length from the straight end at s: s itself, or what is left
 pub data Spiral (k : Kind) (length s : ℕ) : ℕ → Type 0 where
@@ -100,25 +101,25 @@ module _ (p : Prepared) (y : Ready p) where
   abbrev radius : ℕ
   radius = natAbs (e .radius)
 
-  pub negative-is : p .negative ≡ signOf (e .radius)
-  unfolding preparedOf
-  negative-is = ap (λ (x : Prepared). x .negative) (y .prepared)
+  abbrev sign : ℕ
+  sign = signOf (e .radius)
 
-  pub sign-at-most : p .negative ≤ 1
-  sign-at-most = omega (arith, negative-is, sign-small (e .radius))
+  pub off-is : p .off ≡ lowered sign
+  unfolding preparedOf
+  off-is = ap (λ (x : Prepared). x .off) (y .prepared)
+
+  pub off-small : p .off ≤ 1
+  off-small = omega (arith, off-is, lowered-≤ sign, sign-small (e .radius))
 
   divisor-is : (k : Kind) → e .kind ≡ k → p .divisor ≡ divisorOf k radius (e .length)
   unfolding preparedOf
   divisor-is k h = ap (λ (x : Prepared). x .divisor) (y .prepared) ∙ ap (λ x. divisorOf x radius (e .length)) h
 
-  half-is : p .half ≡ p .divisor / 2 - p .negative
+  half-is : p .half ≡ p .divisor / 2 - p .off
   unfolding preparedOf
   half-is =
       ap (λ (x : Prepared). x .half) (y .prepared)
-      ∙ ap₂ (λ (d n : ℕ). d / 2 - n) (sym (ap (λ (x : Prepared). x .divisor) (y .prepared))) (sym negative-is)
-
-  signed : (n : ℕ) → signedBy (e .radius) n ≡ withSign (p .negative) (pos n)
-  signed n = signed-by (e .radius) n ∙ ap (λ (x : ℕ). withSign x (pos n)) (sym negative-is)
+      ∙ ap₂ (λ (d n : ℕ). d / 2 - n) (sym (ap (λ (x : Prepared). x .divisor) (y .prepared))) (sym off-is)
 
   module _ (s : ℕ) (h : s ≤ e .length) (k : e .kind ≡ Arc) where
     abbrev arcAngle : ℕ
@@ -132,20 +133,20 @@ module _ (p : Prepared) (y : Ready p) where
     unfolding RadiusFits
     arc-radius = radius-on Arc k (y .accepted)
 
-    arc-half : p .half ≡ radius - p .negative
+    arc-half : p .half ≡ radius - p .off
     arc-half = omega (arith, half-is, arc-divisor)
 
     pub arc-asks : (s ≤ longestElement) × (p .half ≤ widest) × (1 ≤ p .divisor)
     arc-asks = omega (arith, numbers (y .accepted) .longest, numbers (y .accepted) .shortest, arc-half, arc-divisor, arc-radius)
 
-    arc-near : withSign (p .negative) (pos arcAngle) ≡ near (withSign (p .negative) (pos (ONE * s))) radius
+    arc-near : withSign sign (pos arcAngle) ≡ near (withSign sign (pos (ONE * s))) radius
     arc-near =
-        ap₂ (λ (a d : ℕ). withSign (p .negative) (pos ((2 * (ONE * s) + a) / d))) arc-half arc-divisor
-        ∙ near-halves (p .negative) (ONE * s) radius sign-at-most (omega (arith, numbers (y .accepted) .shortest, arc-radius))
+        ap₂ (λ (a d : ℕ). withSign sign (pos ((2 * (ONE * s) + a) / d))) arc-half arc-divisor
+        ∙ near-halves sign (ONE * s) radius (sign-small (e .radius)) (sym off-is) (omega (arith, numbers (y .accepted) .shortest, arc-radius))
 
-    pub arc-angle-is : withSign (p .negative) (pos arcAngle) ≡ angleAt e s
+    pub arc-angle-is : withSign sign (pos arcAngle) ≡ angleAt e s
     unfolding angleOf fromAnchor
-    arc-angle-is = arc-near ∙ ap (λ (z : ℤ). near z radius) (sym (signed (ONE * s))) ∙ angle-on e Arc k s
+    arc-angle-is = arc-near ∙ ap (λ (z : ℤ). near z radius) (sym (signed-by (e .radius) (ONE * s))) ∙ angle-on e Arc k s
 
   -- what the two kinds of spiral share
   record OnSpiral : Type 0 where
@@ -178,13 +179,13 @@ module _ (p : Prepared) (y : Ready p) where
     spiral-ranges : (l ≤ longestElement) × (p .half < 2 ^ 44) × (1 ≤ p .divisor) × (p .divisor < 2 ^ 44) × (l * l ≤ p .divisor)
     spiral-ranges = omega (arith, numbers (y .accepted) .longest, half-is, twice, spiral-square, spiral-product, spiral-positive)
 
-    spiral-near : withSign (p .negative) (pos spiralAngle) ≡ near (withSign (p .negative) (pos (ONE * (l * l)))) (p .divisor)
+    spiral-near : withSign sign (pos spiralAngle) ≡ near (withSign sign (pos (ONE * (l * l)))) (p .divisor)
     spiral-near =
-        ap (λ (x : ℕ). withSign (p .negative) (pos (x / p .divisor))) (omega (arith, half-is, sign-at-most, twice, spiral-positive))
-        ∙ near-even (p .negative) (ONE * (l * l)) (p .divisor) sign-at-most (omega (arith, twice, spiral-positive)) (omega (arith, twice))
+        ap (λ (x : ℕ). withSign sign (pos (x / p .divisor))) (omega (arith, half-is, off-small, twice, spiral-positive))
+        ∙ near-even sign (ONE * (l * l)) (p .divisor) (sign-small (e .radius)) (sym off-is) (omega (arith, twice, spiral-positive)) (omega (arith, twice))
 
-    spiral-angle-near : withSign (p .negative) (pos spiralAngle) ≡ near (signedBy (e .radius) (ONE * (l * l))) (2 * radius * e .length)
-    spiral-angle-near = spiral-near ∙ ap₂ (λ (z : ℤ) (x : ℕ). near z x) (sym (signed (ONE * (l * l)))) (o .divisor)
+    spiral-angle-near : withSign sign (pos spiralAngle) ≡ near (signedBy (e .radius) (ONE * (l * l))) (2 * radius * e .length)
+    spiral-angle-near = spiral-near ∙ ap₂ (λ (z : ℤ) (x : ℕ). near z x) (sym (signed-by (e .radius) (ONE * (l * l)))) (o .divisor)
 
   spiral-of : {s l : ℕ} → Spiral (e .kind) (e .length) s l → near (signedBy (e .radius) (ONE * (l * l))) (2 * radius * e .length) ≡ angleAt e s
   unfolding angleOf fromAnchor
@@ -195,26 +196,27 @@ module _ (p : Prepared) (y : Ready p) where
     pub spiral-asks : (l ≤ longestElement) × (p .half < 2 ^ 44) × (1 ≤ p .divisor) × (p .divisor < 2 ^ 44) × (l * l ≤ p .divisor)
     spiral-asks = spiral-ranges (on-spiral w) l (spiral-within w h)
 
-    pub spiral-angle-is : withSign (p .negative) (pos ((ONE * (l * l) + p .half) / p .divisor)) ≡ angleAt e s
+    pub spiral-angle-is : withSign sign (pos ((ONE * (l * l) + p .half) / p .divisor)) ≡ angleAt e s
     spiral-angle-is = spiral-angle-near (on-spiral w) l (spiral-within w h) ∙ spiral-of w
 
   -- ---- u and v
 
-  module _ {s : ℕ} (h : s ≤ e .length) {l : ℕ} {K : Series} (w : Curve (e .kind) (e .length) s K l) {angle : ℕ} (t : withSign (p .negative) (pos angle) ≡ angleAt e s) where
-    pub curved : Curved l angle (p .negative)
+  module _ {s : ℕ} (h : s ≤ e .length) {l : ℕ} {K : Series} (w : Curve (e .kind) (e .length) s K l) {angle : ℕ} (t : withSign sign (pos angle) ≡ angleAt e s) where
+    pub curved : Curved l angle (p .off)
     curved =
         record {
           longest = omega (arith, curve-within w h, numbers (y .accepted) .longest);
-          widest = magnitude-at-most (p .negative) angle t (angleAt-within e (y .accepted) s h);
-          sign = sign-at-most;
+          widest = magnitude-at-most sign angle t (angleAt-within e (y .accepted) s h);
+          small = off-small;
         }
 
-    pub reached : {r : Reach} → SeriesAt K l angle (p .negative) r → Reached e s r
-    reached {r} a =
+    pub reached : {r : Reach} → ((sign : ℕ) → sign ≤ 1 → lowered sign ≡ p .off → SeriesAt K l angle sign r) → Reached e s r
+    reached told =
+        let a = told sign (sign-small (e .radius)) (sym off-is) in
         record {
-          turned = ap₂ (λ (x y : ℕ). withSign x (pos y)) (sym negative-is) (a .turned) ∙ t;
+          turned = ap (λ (x : ℕ). withSign sign (pos x)) (a .turned) ∙ t;
           along = ap (withSign (backward (e .kind))) (a .along ∙ ap (seriesAlong K l) t) ∙ curve-along e s w;
-          aside = ap (λ (x : ℕ). withSign x (pos (r .aside))) (sym negative-is) ∙ a .aside ∙ ap (seriesAside K l) t ∙ curve-aside e s w;
+          aside = a .aside ∙ ap (seriesAside K l) t ∙ curve-aside e s w;
         }
 
   pub reached-line : (s : ℕ) → e .kind ≡ Line → Reached e s (record { angle = 0; along = 100 * s; aside = 0 })

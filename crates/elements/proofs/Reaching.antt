@@ -2,13 +2,14 @@
 use mathlib.Core.Path.{_≡_, _∙_, ap}
 use Prim.Native.Nat.{ℕ, _+_, _*_, _/_, _^_, _<_, _≤_}
 use lib.IntN.{pos}
-use Rattle.integers.specs.Signs.{withSign}
+use Rattle.integers.specs.Signs.{withSign, signOf}
 use Rattle.model.specs.declared.Kind.{Kind}
 use Rattle.model.specs.declared.Kind.the-variants.{Line, Arc}
 use Rattle.model.specs.Acceptance.{longestElement, widest}
 use Rattle.model.specs.Rounding.{ONE}
 use Rattle.model.specs.Series.{Series, arcSeries, spiralSeries, angleAt}
 use Rattle.model.proofs.Accepted.{numbers}
+use Rattle.rounding.specs.Rounded.{lowered}
 use Rattle.elements.specs.declared.Prepared.{Prepared}
 use Rattle.elements.specs.Prepared.{Ready}
 use Rattle.elements.specs.Reached.{Curved, SeriesAt, Reached, Reachable, of, elementIn}
@@ -37,14 +38,14 @@ curve-of : {k : Kind} {l d h s z a : ℕ} {K : Series} → Turning k l d h s K z
 curve-of (by-arc e q) = arc e
 curve-of (by-spiral w q) = spiral w
 
-turned : {s z a : ℕ} {K : Series} (p : Prepared) → Ready p → s ≤ p .element .length → Turning (p .element .kind) (p .element .length) (p .divisor) (p .half) s K z a → withSign (p .negative) (pos a) ≡ angleAt (p .element) s
-turned {s} p y b (by-arc e q) = ap (λ (z : ℕ). withSign (p .negative) (pos z)) q ∙ arc-angle-is p y s b e
-turned p y b (by-spiral w q) = ap (λ (z : ℕ). withSign (p .negative) (pos z)) q ∙ spiral-angle-is p y b w
+turned : {s z a : ℕ} {K : Series} (p : Prepared) → Ready p → s ≤ p .element .length → Turning (p .element .kind) (p .element .length) (p .divisor) (p .half) s K z a → withSign (signOf (p .element .radius)) (pos a) ≡ angleAt (p .element) s
+turned {s} p y b (by-arc e q) = ap (λ (z : ℕ). withSign (signOf (p .element .radius)) (pos z)) q ∙ arc-angle-is p y s b e
+turned p y b (by-spiral w q) = ap (λ (z : ℕ). withSign (signOf (p .element .radius)) (pos z)) q ∙ spiral-angle-is p y b w
 
 -- u and v of a curve at that angle: what the series asks, and that they are the definitions'
 pub curve-curved : {k : Kind} {l n d h s z a : ℕ} {K : Series} → Reachable k l n d h s → Turning k l d h s K z a → Curved z a n
 curve-curved (of p s y b) t = curved p y b (curve-of t) (turned p y b t)
 
-pub curve-reached : {k : Kind} {l n d h s z a : ℕ} {K : Series} {r : Reach} (x : Reachable k l n d h s) → Turning k l d h s K z a → SeriesAt K z a n r → Reached (elementIn x) s r
+pub curve-reached : {k : Kind} {l n d h s z a : ℕ} {K : Series} {r : Reach} (x : Reachable k l n d h s) → Turning k l d h s K z a → ((sign : ℕ) → sign ≤ 1 → lowered sign ≡ n → SeriesAt K z a sign r) → Reached (elementIn x) s r
 unfolding elementIn
 curve-reached (of p s y b) t m = reached p y b (curve-of t) (turned p y b t) m

@@ -33,11 +33,11 @@ pub record Factorable (square : ℕ) (f : Factor) : Type 0 where
   pub inner : (1 < f .d) × (f .d ≤ 220)
   pub even : f .d % 2 ≡ 0
 
--- what the series ask of a length in mm, an angle and a sign
-pub record Curved (length angle negative : ℕ) : Type 0 where
+-- what the series ask of a length in mm, an angle and what is taken off before a rounding
+pub record Curved (length angle off : ℕ) : Type 0 where
   pub longest : length ≤ longestElement
   pub widest : angle ≤ 2 ^ 29
-  pub sign : negative ≤ 1
+  pub small : off ≤ 1
 
 -- numbers that serve for every square that an angle has, up to 2^28, and for v
 pub record Usable (k : Numbers) : Type 0 where
@@ -46,15 +46,15 @@ pub record Usable (k : Numbers) : Type 0 where
   pub divisor : (1 ≤ k .divisor) × (k .divisor ≤ 3)
 
 -- r is u and v of a series at a length in mm and an angle
-pub record SeriesAt (k : Series) (length angle negative : ℕ) (r : Reach) : Type 0 where
+pub record SeriesAt (k : Series) (length angle sign : ℕ) (r : Reach) : Type 0 where
   pub turned : r .angle ≡ angle
-  pub along : pos (r .along) ≡ seriesAlong k length (withSign negative (pos angle))
-  pub aside : withSign negative (pos (r .aside)) ≡ seriesAside k length (withSign negative (pos angle))
+  pub along : pos (r .along) ≡ seriesAlong k length (withSign sign (pos angle))
+  pub aside : withSign sign (pos (r .aside)) ≡ seriesAside k length (withSign sign (pos angle))
 
 -- r is the direction at an angle
-pub record TurnAt (angle negative : ℕ) (r : Turn) : Type 0 where
-  pub along : pos (r .cosine) ≡ cosine (withSign negative (pos angle))
-  pub aside : withSign negative (pos (r .sine)) ≡ sine (withSign negative (pos angle))
+pub record TurnAt (angle sign : ℕ) (r : Turn) : Type 0 where
+  pub along : pos (r .cosine) ≡ cosine (withSign sign (pos angle))
+  pub aside : withSign sign (pos (r .sine)) ≡ sine (withSign sign (pos angle))
 
 -- r is the angle, u and v of an element at s mm from its start
 pub record Reached (e : Element) (s : ℕ) (r : Reach) : Type 0 where
@@ -62,16 +62,16 @@ pub record Reached (e : Element) (s : ℕ) (r : Reach) : Type 0 where
   pub along : withSign (backward (e .kind)) (pos (r .along)) ≡ localAt e s .along
   pub aside : withSign (signOf (e .radius)) (pos (r .aside)) ≡ localAt e s .aside
 
--- what u and v at a station depend on: kind, length, sign, divisor and half of an element that is prepared, and s mm from its start
+-- what u and v at a station depend on: kind, length, what is taken off, divisor and half of an element that is prepared, and s mm from its start
 pub data Reachable : Kind → ℕ → ℕ → ℕ → ℕ → ℕ → Type 0 where
-  of : (p : Prepared) (s : ℕ) → Ready p → s ≤ p .element .length → Reachable (p .element .kind) (p .element .length) (p .negative) (p .divisor) (p .half) s
+  of : (p : Prepared) (s : ℕ) → Ready p → s ≤ p .element .length → Reachable (p .element .kind) (p .element .length) (p .off) (p .divisor) (p .half) s
 
-unfoldable pub elementIn : {kind : Kind} {length negative divisor half s : ℕ} → Reachable kind length negative divisor half s → Element
+unfoldable pub elementIn : {kind : Kind} {length off divisor half s : ℕ} → Reachable kind length off divisor half s → Element
 elementIn (of p s y h) = p .element
 
 -- r is the angle, u and v of every element that has these numbers
 abbrev pub ReachedBy : Kind → ℕ → ℕ → ℕ → ℕ → ℕ → Reach → Type 0
-ReachedBy kind length negative divisor half s r = (x : Reachable kind length negative divisor half s) → Reached (elementIn x) s r
+ReachedBy kind length off divisor half s r = (x : Reachable kind length off divisor half s) → Reached (elementIn x) s r
 
 -- the position from the magnitudes of u and v, and the direction from that of the angle
 unfoldable pub pointOf : Element → Reach → Point

@@ -18,11 +18,11 @@ ghost use Rattle.elements.specs.Reached.{Turnable, Near, Reachable, Reac
 
 mod series;
 
-// What depends on the element alone: the sign of the radius (1 where it is negative), the divisor of the angle with what
+// What depends on the element alone: what is taken off before a magnitude is divided and rounded, the divisor of the angle with what
 // is added before the division, and the axes along which the magnitudes of u and of v count.
 pub struct Prepared {
     pub element: Element,
-    pub negative: u64,
+    pub off: u64,
     pub divisor: u64,
     pub half: u64,
     pub ux: i64,
@@ -72,13 +72,14 @@ pub fn prepare(e: Element) -> Prepared
 {
     let kind = e.kind;
     let negative = signs::sign_of(e.radius);
+    let off = rounding::lowered_for(negative);
     let divisor = divisor_of(kind, integers::magnitude(e.radius), e.length);
     let back = backward_on(kind);
     Prepared {
         element: e,
-        negative,
+        off,
         divisor,
-        half: divisor / 2 - negative,
+        half: divisor / 2 - off,
         ux: signs::with_sign(back, e.c),
         uy: signs::with_sign(back, e.s),
         vx: signs::with_sign(negative, signs::with_sign(1, e.s)),
@@ -87,9 +88,9 @@ pub fn prepare(e: Element) -> Prepared
 }
 
 // The angle, u and v at s mm from the element's start, by the numbers that they depend on.
-fn reach(kind: Kind, length: u64, negative: u64, divisor: u64, half: u64, s: u64) -> Reach
-    requires { ⌜ Reachable kind length negative divisor half s ⌝ }
-    ensures { λ r. ⌜ ReachedBy kind length negative divisor half s r ⌝ }
+fn reach(kind: Kind, length: u64, off: u64, divisor: u64, half: u64, s: u64) -> Reach
+    requires { ⌜ Reachable kind length off divisor half s ⌝ }
+    ensures { λ r. ⌜ ReachedBy kind length off divisor half s r ⌝ }
 {
     match kind {
         Kind::Line => Reach {
@@ -97,11 +98,11 @@ fn reach(kind: Kind, length: u64, negative: u64, divisor: u64, half: u64, s: u64
             along: units::GRAINS * s,
             aside: 0,
         },
-        Kind::Arc => series::arc(s, series::arc_angle(s, half, divisor), negative),
-        Kind::EntrySpiral => series::spiral(s, series::spiral_angle(s, half, divisor), negative),
+        Kind::Arc => series::arc(s, series::arc_angle(s, half, divisor), off),
+        Kind::EntrySpiral => series::spiral(s, series::spiral_angle(s, half, divisor), off),
         Kind::ExitSpiral => {
             let l = length - s;
-            series::spiral(l, series::spiral_angle(l, half, divisor), negative)
+            series::spiral(l, series::spiral_angle(l, half, divisor), off)
         }
     }
 }
@@ -135,7 +136,7 @@ fn heading_at(p: Prepared, angle: u64) -> Point
 {
     let e = p.element;
     let kind = e.kind;
-    let d = series::direction(angle, p.negative);
+    let d = series::direction(angle, p.off);
     let back = backward_on(kind);
     Point {
         x: turned(0, e.c, d.cosine, signs::with_sign(back, p.vx), d.sine),
@@ -151,7 +152,7 @@ pub fn position(p: Prepared, s: u64) -> Point
 {
     let e = p.element;
     let kind = e.kind;
-    point_at(p, reach(kind, e.length, p.negative, p.divisor, p.half, s))
+    point_at(p, reach(kind, e.length, p.off, p.divisor, p.half, s))
 }
 
 // The position and the direction at s mm from the element's start.
@@ -162,7 +163,7 @@ pub fn placed(p: Prepared, s: u64) -> Placement
 {
     let e = p.element;
     let kind = e.kind;
-    let r = reach(kind, e.length, p.negative, p.divisor, p.half, s);
+    let r = reach(kind, e.length, p.off, p.divisor, p.half, s);
     let at = point_at(p, r);
     let heading = heading_at(p, r.angle);
     Placement {

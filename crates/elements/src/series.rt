@@ -3,12 +3,13 @@ use model::units::GRAINS;
 use model::units::ONE;
 use rounding::near_even;
 ghost use mathlib.Core.Path.{_≡_};
-ghost use Prim.Native.Nat.{_+_, _*_, _/_, _^_, _<_, _≤_};
+ghost use Prim.Native.Nat.{ℕ, _+_, _*_, _/_, _^_, _<_, _≤_};
 ghost use lib.IntN.{pos, _*ℤ_};
 ghost use Rattle.model.specs.Acceptance.{longestElement};
 ghost use Rattle.model.specs.Rounding.{ONE, near};
 ghost use Rattle.model.specs.Series.{F, squareOf, arcSeries, spiralSeries};
 ghost use Rattle.integers.specs.Signs.{withSign};
+ghost use Rattle.rounding.specs.Rounded.{lowered};
 ghost use Rattle.elements.specs.Reached.{factorOf, seriesOf, Factorable, Curved, Usable, SeriesAt, TurnAt};
 
 // The numbers of F(a; b, d).
@@ -90,20 +91,20 @@ pub fn along(length: u64, f: u64) -> u64
 }
 
 // v, of a length in mm, an angle, the factor of v and its divisor.
-pub fn aside(length: u64, angle: u64, negative: u64, f: u64, divisor: u64) -> u64
-    requires { ⌜ Curved length angle negative ⌝ }
+pub fn aside(length: u64, angle: u64, off: u64, f: u64, divisor: u64) -> u64
+    requires { ⌜ Curved length angle off ⌝ }
     requires { ⌜ (f ≤ ONE) × (1 ≤ divisor) × (divisor ≤ 3) ⌝ }
-    ensures { λ r. ⌜ withSign negative (pos r) ≡ near (near (pos (100 * length) *ℤ withSign negative (pos angle)) ONE *ℤ pos f) (divisor * ONE) ⌝ }
+    ensures { λ r. ⌜ ((sign : ℕ) → sign ≤ 1 → lowered sign ≡ off → withSign sign (pos r) ≡ near (near (pos (100 * length) *ℤ withSign sign (pos angle)) ONE *ℤ pos f) (divisor * ONE)) ⌝ }
 {
-    let w = near_even(GRAINS * length * angle, ONE, negative);
-    near_even(w * f, divisor * ONE, negative)
+    let w = near_even(GRAINS * length * angle, ONE, off);
+    near_even(w * f, divisor * ONE, off)
 }
 
 // u and v of a curve by the numbers of its series.
-fn curve(k: Numbers, length: u64, angle: u64, negative: u64) -> Reach
+fn curve(k: Numbers, length: u64, angle: u64, off: u64) -> Reach
     requires { ⌜ Usable k ⌝ }
-    requires { ⌜ Curved length angle negative ⌝ }
-    ensures { λ r. ⌜ SeriesAt (seriesOf k) length angle negative r ⌝ }
+    requires { ⌜ Curved length angle off ⌝ }
+    ensures { λ r. ⌜ ((sign : ℕ) → sign ≤ 1 → lowered sign ≡ off → SeriesAt (seriesOf k) length angle sign r) ⌝ }
 {
     let square = square_of(angle);
     let f = k.along;
@@ -111,35 +112,35 @@ fn curve(k: Numbers, length: u64, angle: u64, negative: u64) -> Reach
     Reach {
         angle,
         along: along(length, factor_of(square, f)),
-        aside: aside(length, angle, negative, factor_of(square, g), k.divisor),
+        aside: aside(length, angle, off, factor_of(square, g), k.divisor),
     }
 }
 
 // u and v of an arc.
-pub fn arc(length: u64, angle: u64, negative: u64) -> Reach
-    requires { ⌜ Curved length angle negative ⌝ }
-    ensures { λ r. ⌜ SeriesAt arcSeries length angle negative r ⌝ }
+pub fn arc(length: u64, angle: u64, off: u64) -> Reach
+    requires { ⌜ Curved length angle off ⌝ }
+    ensures { λ r. ⌜ ((sign : ℕ) → sign ≤ 1 → lowered sign ≡ off → SeriesAt arcSeries length angle sign r) ⌝ }
 {
-    curve(ARC, length, angle, negative)
+    curve(ARC, length, angle, off)
 }
 
 // U and V of a spiral.
-pub fn spiral(length: u64, angle: u64, negative: u64) -> Reach
-    requires { ⌜ Curved length angle negative ⌝ }
-    ensures { λ r. ⌜ SeriesAt spiralSeries length angle negative r ⌝ }
+pub fn spiral(length: u64, angle: u64, off: u64) -> Reach
+    requires { ⌜ Curved length angle off ⌝ }
+    ensures { λ r. ⌜ ((sign : ℕ) → sign ≤ 1 → lowered sign ≡ off → SeriesAt spiralSeries length angle sign r) ⌝ }
 {
-    curve(SPIRAL, length, angle, negative)
+    curve(SPIRAL, length, angle, off)
 }
 
 // The direction, before a sign of the kind.
-pub fn direction(angle: u64, negative: u64) -> Turn
-    requires { ⌜ Curved 0 angle negative ⌝ }
-    ensures { λ r. ⌜ TurnAt angle negative r ⌝ }
+pub fn direction(angle: u64, off: u64) -> Turn
+    requires { ⌜ Curved 0 angle off ⌝ }
+    ensures { λ r. ⌜ ((sign : ℕ) → sign ≤ 1 → lowered sign ≡ off → TurnAt angle sign r) ⌝ }
 {
     let square = square_of(angle);
     Turn {
         cosine: factor_of(square, COSINE),
-        sine: near_even(angle * factor_of(square, SINE), ONE, negative),
+        sine: near_even(angle * factor_of(square, SINE), ONE, off),
     }
 }
 

@@ -1,15 +1,13 @@
 -- How far near(n, d) is from n/d, and how large it is: what follows from its three laws, that its error is at most a half, that it is monotone, and that it is exact on
 -- multiples of d.
-use mathlib.Core.Path.{_≡_, sym, ap, subst}
+use mathlib.Core.Path.{sym, ap, subst}
 use Prim.Native.Nat.{ℕ, _+_, _*_, _≤_, _<_}
 use native.Mathlib.Omega.{arith}
 use native.Mathlib.Nat.{mul-zero, mul-le-mul, le-trans, le-of-eq}
 use lib.IntN.{ℤ, pos, natAbs, _+ℤ_, _-ℤ_, _*ℤ_}
 use lib.Signed.{_≤ℤ_}
-use Rattle.integers.specs.Signs.{withSign}
 use Rattle.integers.proofs.Ring.{*ℤ-neg}
 use Rattle.integers.proofs.Abs.{natAbs-+, natAbs--, natAbs-*, natAbs-≤, ≤-natAbs}
-use Rattle.integers.proofs.Signed.{natAbs-sign, magnitude-at-most}
 use Rattle.model.specs.Rounding.{ONE, near}
 use Rattle.model.proofs.Rounding.{near-error, near-mono, near-multiple}
 
@@ -32,10 +30,6 @@ module _ {d : ℕ} (h : 0 < d) where
   near-within n {k} l =
       let b = ≤-natAbs l in
       natAbs-≤ (≤-near (subst (λ x. x ≤ℤ n) (sym (*ℤ-neg (pos d) (pos k))) (b .0))) (near-≤ (b .1))
-
--- near(±n, d) is at most k in magnitude where n ≤ d · k
-pub near-at-most : (sign n d q k : ℕ) → 0 < d → withSign sign (pos q) ≡ near (withSign sign (pos n)) d → n ≤ d * k → q ≤ k
-near-at-most sign n d q k h e b = magnitude-at-most sign q e (near-within h (withSign sign (pos n)) (le-trans (le-of-eq (natAbs-sign sign (pos n))) b))
 
 -- a rounded sum of two products with factors up to r · ONE
 pub near-turn : (r : ℕ) (a u b v : ℤ) {j k : ℕ} → natAbs a ≤ r * ONE → natAbs b ≤ r * ONE → natAbs u ≤ j → natAbs v ≤ k → (natAbs (near (a *ℤ u -ℤ b *ℤ v) ONE) ≤ r * (j + k)) × (natAbs (near (a *ℤ u +ℤ b *ℤ v) ONE) ≤ r * (j + k))

@@ -22,11 +22,11 @@ aside-requires : tie.Need-aside-requires
 aside-requires c κs = search needs
 
 returns : tie.Need-returns
-returns c =
+returns c sign h e =
     let second = c .before in
     let first = second .before .before in
     let square = first .before .before .before in
-    series-at _ _ _ (square .square-of .ensures .0) (seriesOf (square .before .args .k)) _ _ _ _ (first .factor-of .ensures .0) (second .factor-of2 .ensures .0) refl (second .before .along .ensures) (c .aside .ensures)
+    series-at sign _ _ (square .square-of .ensures .0) (seriesOf (square .before .args .k)) _ _ _ _ (first .factor-of .ensures .0) (second .factor-of2 .ensures .0) refl (second .before .along .ensures) (c .aside .ensures sign h e)
 
 pub curve-spec : {M : Type 1} → statement M
 curve-spec =

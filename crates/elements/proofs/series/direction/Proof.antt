@@ -26,10 +26,10 @@ near-even-requires : tie.Need-near-even-requires
 near-even-requires c κs = omega (arith, product-small c)
 
 returns : tie.Need-returns
-returns c =
+returns c sign h e =
     let second = c .before in
     let first = second .before in
-    turn-at _ _ _ (first .before .square-of .ensures .0) _ _ (second .factor-of2 .ensures .0) (first .factor-of .ensures .0) (c .near-even .ensures)
+    turn-at sign _ _ (first .before .square-of .ensures .0) _ _ (second .factor-of2 .ensures .0) (first .factor-of .ensures .0) (c .near-even .ensures sign h e)
 
 pub direction-spec : {M : Type 1} → statement M
 direction-spec =

@@ -5,7 +5,7 @@ use native.Mathlib.Nat.{mul-le-mul}
 use borrow.Author.Needs.{needs}
 use Rattle.integers.specs.Signs.{withSign}
 use Rattle.model.specs.Rounding.{ONE}
-use Rattle.rounding.proofs.Sizes.{near-at-most}
+use Rattle.rounding.proofs.Quotients.{lowered-0, near-at-most}
 use Rattle.elements.specs.Reached.{factorOf}
 use Rattle.elements.proofs.Steps.{factor-step}
 use Rattle.elements.proofs.series.factor_of.Statement.{statement}
@@ -16,13 +16,13 @@ inner-product c = mul-le-mul (c .pre .ratio) (c .pre .small)
 
 module _ (c : tie.After-near-even) where
   quotient-small : c .near-even .result ≤ ONE
-  quotient-small = near-at-most 0 _ _ _ ONE (omega arith) (c .near-even .ensures) (inner-product (c .before .before))
+  quotient-small = near-at-most _ _ _ ONE (omega arith) (omega arith) (c .near-even .ensures) (inner-product (c .before .before))
 
   outer-product : c .before .before .args .square * (ONE - c .near-even .result) ≤ ONE * ONE
   outer-product = mul-le-mul {n₁ = c .before .before .args .square} {m₁ = ONE - c .near-even .result} {n₂ = ONE} {m₂ = ONE} (c .before .before .pre .small) (omega arith)
 
 outer-small : (c : tie.After-near-even2) → c .near-even2 .result ≤ ONE
-outer-small c = near-at-most 0 _ _ _ ONE (omega arith) (c .near-even2 .ensures) (omega (arith, outer-product (c .before .before)))
+outer-small c = near-at-most _ _ _ ONE (omega arith) (omega arith) (c .near-even2 .ensures) (omega (arith, outer-product (c .before .before)))
 
 mul-near-even : tie.Need-mul-near-even
 mul-near-even c = omega (arith, inner-product (c .before))
@@ -47,7 +47,7 @@ sub-result c = outer-small c
 
 returns : tie.Need-returns
 unfolding withSign
-returns c = (factor-step (factorOf (c .before .before .before .before .args .f)) _ _ _ (quotient-small (c .before .before)) (outer-small c) (c .before .before .near-even .ensures) (c .near-even2 .ensures), omega arith)
+returns c = (factor-step (factorOf (c .before .before .before .before .args .f)) _ _ _ (quotient-small (c .before .before)) (outer-small c) (c .before .before .near-even .ensures 0 (omega arith) lowered-0) (c .near-even2 .ensures 0 (omega arith) lowered-0), omega arith)
 
 pub factor-of-spec : {M : Type 1} → statement M
 factor-of-spec =

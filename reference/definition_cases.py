@@ -38,6 +38,7 @@ CRATE = "model"
 # Numbers, bytes and the model's types as text
 
 KINDS = {LINE: "Line", ARC: "Arc", ENTRY: "EntrySpiral", EXIT: "ExitSpiral"}
+SHAPES = {LINE: "Straight", ARC: "Circular", ENTRY: "Clothoid", EXIT: "Clothoid"}
 I32 = (-(2**31), -(2**31) + 1, -1, 0, 1, 2**31 - 2, 2**31 - 1)
 
 
@@ -200,6 +201,7 @@ KIND_USES = (
     "declared.Kind.{Kind}",
     "declared.Kind.the-variants.{Line, Arc, EntrySpiral, ExitSpiral}",
 )
+SHAPE_USES = ("declared.Shape.{Shape}", "declared.Shape.the-variants.{Straight, Circular, Clothoid}")
 ELEMENT_USES = (*KIND_USES, "declared.Element.{Element}", "declared.Point.{Point}")
 OUTCOME_USES = ("declared.Outcome.{Outcome}", "declared.Outcome.the-variants.{Done, Refused}")
 FILE_CREST_USES = ("Acceptance.{crestRules, crestElements}", "Crest.{fileCrest}")
@@ -745,24 +747,29 @@ def local_text(pair):
 
 
 def series(rng):
-    positions, tangents, angles, locals_, directions = [], [], [], [], []
+    positions, tangents, lengths, angles, unsigned, locals_, directions = [], [], [], [], [], [], []
     for element in sample_elements(rng, 80):
         text = element_text(element)
         for s in places_on(rng, element):
+            u, v = crest.own_position(element, s)
+            lengths.append(Case(f"lengthAt {text} {s}", str(crest.distance_from_anchor(element, s))))
+            unsigned.append(Case(f"unsignedAt {text} {s}", local_text((-u if element.kind == EXIT else u, v))))
             positions.append(Case(f"positionOn {text} {s}", point_text(crest.position(element, s))))
             tangents.append(Case(f"tangentOn {text} {s}", point_text(crest.direction(element, s))))
             turned = 0 if element.kind == LINE else crest.turned(element, s)
             angles.append(Case(f"angleAt {text} {s}", whole(turned)))
-            locals_.append(Case(f"localAt {text} {s}", local_text(crest.own_position(element, s))))
+            locals_.append(Case(f"localAt {text} {s}", local_text((u, v))))
             directions.append(Case(f"directionAt {text} {s}", local_text(crest.own_direction(element, s))))
     tables = [
         Table("positions", "Point", "positionOn", positions),
         Table("tangents", "Point", "tangentOn", tangents),
+        Table("lengths", "ℕ", "lengthAt", lengths[::4]),
         Table("angles", "ℤ", "angleAt", angles[::2]),
+        Table("unsigned", "Local", "unsignedAt", unsigned[::4]),
         Table("locals", "Local", "localAt", locals_[::2]),
         Table("directions", "Local", "directionAt", directions[::2]),
     ]
-    uses = (*ELEMENT_USES, "Series.{Local, positionOn, tangentOn, angleAt, localAt, directionAt}")
+    uses = (*ELEMENT_USES, "Series.{Local, positionOn, tangentOn, lengthAt, angleAt, unsignedAt, localAt, directionAt}")
     return Chapter(5, "Series", uses, tables)
 
 
@@ -810,7 +817,7 @@ def single_statements(name, statements, proof):
     """A declaration for each statement, with one proof for all."""
     for number, statement in enumerate(statements, 1):
         full = f"{name}-{number}"
-        line = f"unfolding Within2 unsignedAlong localAt lengthAt {BOUND_UNFOLDING}"
+        line = f"unfolding Within2 unsignedAt exactAlongAt exactAsideAt {BOUND_UNFOLDING}"
         yield full, f"{full} : {statement}\n{line}\n{full} = {proof}\n"
 
 
@@ -822,11 +829,11 @@ def bound(rng):
             l = crest.distance_from_anchor(element, s)
             u, v = crest.own_position(element, s)
             u = -u if element.kind == EXIT else u
-            kind = KINDS[element.kind]
-            turn = f"(turnOf {kind} {whole(element.radius)} {element.length} {l})"
+            shape = SHAPES[element.kind]
+            turn = f"(turnOf {shape} {whole(element.radius)} {element.length} {l})"
             turns.append(same_fraction(turn, turn_of(element, l)))
             for name, value, found in zip(("exactAlong", "exactAside"), exact(element, l), (u, v)):
-                text = f"({name} {kind} {l} {turn})"
+                text = f"({name} {shape} {l} {turn})"
                 sums.append(same_fraction(text, value))
                 positive.append(Case(f"ltb 0 ({text} .denominator)", "true"))
                 low, high = math.ceil(value - 2), math.floor(value + 2)
@@ -852,8 +859,9 @@ def bound(rng):
         *ELEMENT_USES,
         "lib.IntN.{natAbs, one, _*ℤ_, _-ℤ_}",
         "lib.Dec.{leb, ltb, leb→le, le→leb}",
-        "Series.{lengthAt, localAt}",
-        "Bound.{Within2, Bounded, turnOf, exactAlong, exactAside, unsignedAlong}",
+        *SHAPE_USES,
+        "Series.{turnOf, unsignedAt}",
+        "Bound.{Within2, Bounded, exactAlong, exactAside, exactAlongAt, exactAsideAt}",
     )
     return Chapter(6, "Bound", uses, tables, after=tuple(after))
 

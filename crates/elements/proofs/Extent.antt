@@ -1,5 +1,6 @@
 -- How large the numbers of an element are at a station. Rounding keeps a bound that is a multiple of the divisor, and the factors and the angle are
 -- in the ranges of `Factor` and `Angle`.
+use mathlib.Core.Bool.{Bool, true, false}
 use mathlib.Core.Path.{subst}
 use Prim.Native.Nat.{ℕ, _+_, _*_, _^_, _<_, _≤_}
 use native.Mathlib.Omega.{arith}
@@ -9,12 +10,13 @@ use lib.Signed.{_<ℤ_}
 use Rattle.integers.proofs.Order.{order, sum, difference, parts, 0≤-square}
 use Rattle.integers.proofs.Abs.{natAbs-neg, natAbs-+, natAbs--, natAbs-*, square→natAbs-<ℕ}
 use Rattle.integers.proofs.Plane.{squared-≤}
-use Rattle.model.specs.declared.Kind.{Kind}
-use Rattle.model.specs.declared.Kind.the-variants.{Line, Arc, EntrySpiral, ExitSpiral}
+use Rattle.model.specs.declared.Shape.{Shape}
+use Rattle.model.specs.declared.Shape.the-variants.{Straight, Circular, Clothoid}
 use Rattle.model.specs.declared.Element.{Element}
 use Rattle.model.specs.declared.Point.{Point}
 use Rattle.model.specs.Rounding.{ONE, near}
-use Rattle.model.specs.Series.{Factor, Series, arcSeries, spiralSeries, cosineFactor, sineFactor, F, squareOf, seriesAlong, seriesAside, cosine, sine, localOf, directionOf, lengthAt, angleAt, localAt, directionAt, turned, movedBy, positionOn, tangentOn}
+use Rattle.model.specs.Kinds.{shapeOf, anchoredFar}
+use Rattle.model.specs.Series.{Factor, Series, arcSeries, spiralSeries, cosineFactor, sineFactor, F, squareOf, seriesAlong, seriesAside, cosine, sine, localOf, directionOf, facing, lengthAt, angleAt, unsignedAt, localAt, directionAt, turned, movedBy, positionOn, tangentOn}
 use Rattle.model.specs.Acceptance.{frame}
 use Rattle.model.specs.Stations.{distanceSq}
 use Rattle.model.specs.Accepted.{Accepted}
@@ -57,46 +59,47 @@ module _ (t : ℤ) (h : natAbs t ≤ 2 ^ 29) where
       let most : 2 * ONE * (25 * z) ≤ k .asideDivisor * ONE * (25 * z) = mul-le-mul-right (25 * z) (omega (arith, s .divisor)) in
       near-within {d = k .asideDivisor * ONE} (omega (arith, s .divisor)) (w *ℤ f) (omega (arith, natAbs-* w f))
 
-  pub cosine-within : natAbs (cosine t) ≤ ONE
+  cosine-within : natAbs (cosine t) ≤ ONE
   unfolding cosine
   cosine-within = factor-within {f = cosineFactor} (omega arith)
 
-  pub sine-within : natAbs (sine t) ≤ 2 ^ 29
+  sine-within : natAbs (sine t) ≤ 2 ^ 29
   unfolding sine
   sine-within =
       let f = F sineFactor (squareOf t) in
       near-within {d = ONE} (omega arith) (t *ℤ f) (omega (arith, natAbs-* t f, mul-le-mul h (factor-within {f = sineFactor} (omega arith))))
 
--- ---- the four kinds
+-- ---- the shapes
 
 module _ (t : ℤ) (h : natAbs t ≤ 2 ^ 29) where
-  local-along-within : (k : Kind) (l : ℕ) → natAbs (localOf k l t .along) ≤ 100 * l
+  local-along-within : (k : Shape) (l : ℕ) → natAbs (localOf k l t .along) ≤ 100 * l
   unfolding localOf
-  local-along-within Line l = omega arith
-  local-along-within Arc l = along-within t h arc-proper l
-  local-along-within EntrySpiral l = along-within t h spiral-proper l
-  local-along-within ExitSpiral l = le-trans (le-of-eq (natAbs-neg (seriesAlong spiralSeries l t))) (along-within t h spiral-proper l)
+  local-along-within Straight l = omega arith
+  local-along-within Circular l = along-within t h arc-proper l
+  local-along-within Clothoid l = along-within t h spiral-proper l
 
-  local-aside-within : (k : Kind) (l : ℕ) → natAbs (localOf k l t .aside) ≤ 25 * l
+  local-aside-within : (k : Shape) (l : ℕ) → natAbs (localOf k l t .aside) ≤ 25 * l
   unfolding localOf
-  local-aside-within Line l = omega arith
-  local-aside-within Arc l = aside-within t h arc-proper l
-  local-aside-within EntrySpiral l = aside-within t h spiral-proper l
-  local-aside-within ExitSpiral l = aside-within t h spiral-proper l
+  local-aside-within Straight l = omega arith
+  local-aside-within Circular l = aside-within t h arc-proper l
+  local-aside-within Clothoid l = aside-within t h spiral-proper l
 
-  direction-along-within : (k : Kind) → natAbs (directionOf k t .along) ≤ ONE
+  pub direction-along-within : (k : Shape) → natAbs (directionOf k t .along) ≤ ONE
   unfolding directionOf
-  direction-along-within Line = omega arith
-  direction-along-within Arc = cosine-within t h
-  direction-along-within EntrySpiral = cosine-within t h
-  direction-along-within ExitSpiral = cosine-within t h
+  direction-along-within Straight = omega arith
+  direction-along-within Circular = cosine-within t h
+  direction-along-within Clothoid = cosine-within t h
 
-  direction-aside-within : (k : Kind) → natAbs (directionOf k t .aside) ≤ 2 ^ 29
+  pub direction-aside-within : (k : Shape) → natAbs (directionOf k t .aside) ≤ 2 ^ 29
   unfolding directionOf
-  direction-aside-within Line = omega arith
-  direction-aside-within Arc = sine-within t h
-  direction-aside-within EntrySpiral = sine-within t h
-  direction-aside-within ExitSpiral = le-trans (le-of-eq (natAbs-neg (sine t))) (sine-within t h)
+  direction-aside-within Straight = omega arith
+  direction-aside-within Circular = sine-within t h
+  direction-aside-within Clothoid = sine-within t h
+
+pub facing-within : (far : Bool) (z : ℤ) {k : ℕ} → natAbs z ≤ k → natAbs (facing far z) ≤ k
+unfolding facing
+facing-within false z h = h
+facing-within true z h = le-trans (le-of-eq (natAbs-neg z)) h
 
 -- ---- the direction at the anchor
 
@@ -122,7 +125,7 @@ distance-small p q px py qx qy =
 -- ---- the record
 
 pub extent : {e : Element} → Accepted e → {s : ℕ} → s ≤ e .length → Extent e s
-unfolding localAt directionAt positionOn tangentOn turned movedBy
+unfolding localAt unsignedAt directionAt positionOn tangentOn turned movedBy
 extent {e} a {s} h =
     let t = angleAt-within e a s h in
     let l = lengthAt-within e a s h in
@@ -130,15 +133,19 @@ extent {e} a {s} h =
     let d = unit-within′ (e .c) (e .s) (numbers a .unit) in
     let w = localAt e s in
     let g = directionAt e s in
-    let u : natAbs (w .along) ≤ 50000000 = le-trans (local-along-within (angleAt e s) t (e .kind) (lengthAt e s)) (omega arith) in
-    let v : natAbs (w .aside) ≤ 12500000 = le-trans (local-aside-within (angleAt e s) t (e .kind) (lengthAt e s)) (omega arith) in
-    let m = direction-along-within (angleAt e s) t (e .kind) in
-    let n = direction-aside-within (angleAt e s) t (e .kind) in
+    let far = anchoredFar (e .kind) in
+    let shape = shapeOf (e .kind) in
+    let u₀ : natAbs (unsignedAt e s .along) ≤ 50000000 = le-trans (local-along-within (angleAt e s) t shape (lengthAt e s)) (omega arith) in
+    let u = facing-within far (unsignedAt e s .along) u₀ in
+    let v : natAbs (w .aside) ≤ 12500000 = le-trans (local-aside-within (angleAt e s) t shape (lengthAt e s)) (omega arith) in
+    let m = direction-along-within (angleAt e s) t shape in
+    let n = facing-within far (directionOf shape (angleAt e s) .aside) (direction-aside-within (angleAt e s) t shape) in
     let moved : (x y : ℤ) → natAbs x ≤ frame → natAbs y ≤ 62500000 → natAbs (x +ℤ y) ≤ widestPosition = λ x y hx hy. omega (arith, natAbs-+ x y) in
     let px = moved (e .x) (near (e .c *ℤ w .along -ℤ e .s *ℤ w .aside) ONE) (numbers a .anchorX) (near-turn 1 (e .c) (w .along) (e .s) (w .aside) c d u v .0) in
     let py = moved (e .y) (near (e .s *ℤ w .along +ℤ e .c *ℤ w .aside) ONE) (numbers a .anchorY) (near-turn 1 (e .s) (w .along) (e .c) (w .aside) d c u v .1) in
     record {
       angle = t;
+      unsigned = u₀;
       along = u;
       aside = v;
       cosine = m;

@@ -12,11 +12,11 @@ use Rattle.integers.proofs.Abs.{natAbs-*}
 use Rattle.integers.proofs.Identity.{var, _⊕_, _⊖_, _⊗_}
 use Rattle.integers.proofs.Written.{writing, identity, identityℕ}
 use Rattle.model.specs.Rounding.{ONE, near}
-use Rattle.model.specs.Series.{Factor, factor, F, squareOf}
-use Rattle.model.specs.Bound.{Fraction, threeTerms}
+use Rattle.model.specs.Series.{Factor, factor, F, squareOf, Fraction, angleOf}
+use Rattle.model.specs.Bound.{threeTerms}
 use Rattle.rounding.proofs.Sizes.{twice-error, 0≤-near, near-within}
 use Rattle.elements.proofs.Errors.{sized, plain, 2′, 4′, ONE′, _⊞_, _⊟_, _⊠_, _·_, error-by}
-use Rattle.elements.proofs.Angle.{Turn, Square, angle, square-numerator, angle-square, angle-square-error}
+use Rattle.elements.proofs.Angle.{Turn, Square, square-numerator, angle-square, angle-square-error}
 
 -- what every F(a; b, d) in use has
 pub record Proper (f : Factor) : Type 0 where
@@ -135,10 +135,10 @@ pub record Close (G S : ℤ) (D : ℕ) : Type 0 where
   pub error : natAbs (pos D *ℤ G -ℤ pos ONE *ℤ S) ≤ D
 
 pub F-close : {c b d : ℕ} → ThreeTerm c b d → {φ : Fraction} → Turn φ →
-    Close (F (factor (c * b) b d) (squareOf (angle φ))) (threeTerms (c * b) (c * d) (φ .numerator) (φ .denominator)) (c * b * (c * d) * φ .denominator ^ 4)
+    Close (F (factor (c * b) b d) (squareOf (angleOf φ))) (threeTerms (c * b) (c * d) (φ .numerator) (φ .denominator)) (c * b * (c * d) * φ .denominator ^ 4)
 unfolding F
 F-close {c} {b} {d} h {φ} turn =
-    let p = squareOf (angle φ) in
+    let p = squareOf (angleOf φ) in
     let f = factor (c * b) b d in
     let proper = three-term-proper h in
     record {

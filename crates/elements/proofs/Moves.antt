@@ -9,7 +9,8 @@ use lib.IntN.{ℤ, pos, natAbs, _+ℤ_, _-ℤ_, _*ℤ_}
 use Rattle.integers.proofs.Abs.{natAbs-*}
 use Rattle.integers.proofs.Ranges.{abs-within}
 use Rattle.integers.proofs.Written.{writing, identity, identityℕ}
-use Rattle.model.specs.Bound.{Fraction, threeTerms, alongSum, asideSum}
+use Rattle.model.specs.Series.{Fraction}
+use Rattle.model.specs.Bound.{threeTerms, alongSum, asideSum}
 
 abbrev pub twice : ℤ → ℤ
 twice m = pos 2 *ℤ m

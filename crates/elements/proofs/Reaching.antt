@@ -1,51 +1,57 @@
--- u and v from the numbers of an element that is prepared, kind by kind.
-use mathlib.Core.Path.{_≡_, _∙_, ap}
-use Prim.Native.Nat.{ℕ, _+_, _*_, _/_, _^_, _<_, _≤_}
+-- The angle, u and v from the numbers of an element that is prepared, at the length from its anchor.
+use mathlib.Core.Path.{_≡_, sym, _∙_, ap}
+use Prim.Native.Nat.{ℕ, _*_, _^_, _<_, _≤_}
+use native.Mathlib.Omega.{arith}
 use lib.IntN.{pos}
 use Rattle.integers.specs.Signs.{withSign, signOf}
+use Rattle.integers.proofs.Signed.{sign-zero}
 use Rattle.model.specs.declared.Kind.{Kind}
-use Rattle.model.specs.declared.Kind.the-variants.{Line, Arc}
+use Rattle.model.specs.declared.Shape.{Shape}
+use Rattle.model.specs.declared.Shape.the-variants.{Straight, Circular, Clothoid}
+use Rattle.model.specs.declared.Element.{Element}
+use Rattle.model.specs.Kinds.{shapeOf, anchoredFar}
 use Rattle.model.specs.Acceptance.{longestElement, widest}
-use Rattle.model.specs.Rounding.{ONE}
-use Rattle.model.specs.Series.{Series, arcSeries, spiralSeries, angleAt}
+use Rattle.model.specs.Series.{localOf, fromAnchor, wholeLength, lengthAt}
 use Rattle.model.proofs.Accepted.{numbers}
 use Rattle.rounding.specs.Rounded.{lowered}
-use Rattle.elements.specs.declared.Prepared.{Prepared}
-use Rattle.elements.specs.Prepared.{Ready}
-use Rattle.elements.specs.Reached.{Curved, SeriesAt, Reached, Reachable, of, elementIn}
-use Rattle.elements.specs.declared.series.Reach.{Reach}
-use Rattle.elements.proofs.Preparing.{Spiral, Curve, arc, spiral, arc-asks, arc-angle-is, spiral-asks, spiral-angle-is, curved, reached, reached-line}
+use Rattle.elements.specs.declared.series.Magnitudes.{Magnitudes}
+use Rattle.elements.specs.Reached.{Curved, measured, measuredBy, measuredAt, quotientOf, Reachable, of, elementIn}
+use Rattle.elements.proofs.Angle.{lengthAt-whole}
+use Rattle.elements.proofs.Preparing.{arc-asks, spiral-asks, curved, measured-is}
 
-pub on-element : {k : Kind} {l n d h s : ℕ} → Reachable k l n d h s → (s ≤ l) × (l ≤ longestElement)
+-- l is the length from the anchor of a kind of this shape
+pub record From (k : Kind) (shape : Shape) (length s l : ℕ) : Type 0 where
+  pub shaped : shapeOf k ≡ shape
+  pub from : l ≡ fromAnchor (anchoredFar k) length s
+
+at : (e : Element) {shape : Shape} {s l : ℕ} → From (e .kind) shape (e .length) s l → l ≡ lengthAt e s
+unfolding lengthAt
+at e f = f .from
+
+within : (e : Element) {shape : Shape} {s l : ℕ} → s ≤ e .length → From (e .kind) shape (e .length) s l → l ≤ wholeLength e
+within e b f = omega (arith, at e f, lengthAt-whole e b)
+
+pub on-element : {k : Kind} {n o d h s : ℕ} → Reachable k n o d h s → (s ≤ n) × (n ≤ longestElement)
 on-element (of p s y b) = (b, numbers (y .accepted) .longest)
 
-pub line-reached : {k : Kind} {l n d h s : ℕ} (x : Reachable k l n d h s) → k ≡ Line → Reached (elementIn x) s (record { angle = 0; along = 100 * s; aside = 0 })
+pub from-within : {k : Kind} {n o d h s : ℕ} → Reachable k n o d h s → {shape : Shape} {l : ℕ} → From k shape n s l → l ≤ longestElement
+from-within (of p s y b) f = omega (arith, within (p .element) b f, numbers (y .accepted) .longest)
+
+pub arc-asked : {k : Kind} {n o d h s : ℕ} → Reachable k n o d h s → {l : ℕ} → From k Circular n s l → (l ≤ longestElement) × (h ≤ widest) × (1 ≤ d)
+arc-asked (of p s y b) f = arc-asks y (f .shaped) _ (within (p .element) b f)
+
+pub spiral-asked : {k : Kind} {n o d h s : ℕ} → Reachable k n o d h s → {l : ℕ} → From k Clothoid n s l → (l ≤ longestElement) × (h < 2 ^ 44) × (1 ≤ d) × (d < 2 ^ 44) × (l * l ≤ d)
+spiral-asked (of p s y b) f = spiral-asks y (f .shaped) _ (within (p .element) b f)
+
+-- where a is the quotient that is computed: what the series asks, and that u and v are the definitions'
+pub curve-asked : {k : Kind} {n o d h s : ℕ} → Reachable k n o d h s → (shape : Shape) {l a : ℕ} → From k shape n s l → a ≡ quotientOf shape l h d → Curved l a o
+curve-asked (of p s y b) shape f q = curved y shape (f .shaped) _ (within (p .element) b f) _ q
+
+pub reached : {k : Kind} {n o d h s : ℕ} (x : Reachable k n o d h s) (shape : Shape) {l a : ℕ} → From k shape n s l → a ≡ quotientOf shape l h d → (r : Magnitudes) → ((t : ℕ) → t ≤ 1 → lowered t ≡ o → measured t r ≡ measuredBy shape l (withSign t (pos a))) → measured (signOf (elementIn x .radius)) r ≡ measuredAt (elementIn x) (lengthAt (elementIn x) s)
 unfolding elementIn
-line-reached (of p s y b) e = reached-line p y s e
+reached (of p s y b) shape f q r m = measured-is y shape (f .shaped) _ (within (p .element) b f) _ q r m ∙ ap (measuredAt (p .element)) (at (p .element) f)
 
-pub arc-asked : {k : Kind} {l n d h s : ℕ} → Reachable k l n d h s → k ≡ Arc → (s ≤ longestElement) × (h ≤ widest) × (1 ≤ d)
-arc-asked (of p s y b) e = arc-asks p y s b e
-
-pub spiral-asked : {k : Kind} {l n d h s z : ℕ} → Reachable k l n d h s → Spiral k l s z → (z ≤ longestElement) × (h < 2 ^ 44) × (1 ≤ d) × (d < 2 ^ 44) × (z * z ≤ d)
-spiral-asked (of p s y b) w = spiral-asks p y b w
-
--- the angle of a curve at s as it is computed, with the series of the curve and the length that the series takes
-pub data Turning (k : Kind) (l d h s : ℕ) : Series → ℕ → ℕ → Type 0 where
-  by-arc : {a : ℕ} → k ≡ Arc → a ≡ (2 * (ONE * s) + h) / d → Turning k l d h s arcSeries s a
-  by-spiral : {z a : ℕ} → Spiral k l s z → a ≡ (ONE * (z * z) + h) / d → Turning k l d h s spiralSeries z a
-
-curve-of : {k : Kind} {l d h s z a : ℕ} {K : Series} → Turning k l d h s K z a → Curve k l s K z
-curve-of (by-arc e q) = arc e
-curve-of (by-spiral w q) = spiral w
-
-turned : {s z a : ℕ} {K : Series} (p : Prepared) → Ready p → s ≤ p .element .length → Turning (p .element .kind) (p .element .length) (p .divisor) (p .half) s K z a → withSign (signOf (p .element .radius)) (pos a) ≡ angleAt (p .element) s
-turned {s} p y b (by-arc e q) = ap (λ (z : ℕ). withSign (signOf (p .element .radius)) (pos z)) q ∙ arc-angle-is p y s b e
-turned p y b (by-spiral w q) = ap (λ (z : ℕ). withSign (signOf (p .element .radius)) (pos z)) q ∙ spiral-angle-is p y b w
-
--- u and v of a curve at that angle: what the series asks, and that they are the definitions'
-pub curve-curved : {k : Kind} {l n d h s z a : ℕ} {K : Series} → Reachable k l n d h s → Turning k l d h s K z a → Curved z a n
-curve-curved (of p s y b) t = curved p y b (curve-of t) (turned p y b t)
-
-pub curve-reached : {k : Kind} {l n d h s z a : ℕ} {K : Series} {r : Reach} (x : Reachable k l n d h s) → Turning k l d h s K z a → ((sign : ℕ) → sign ≤ 1 → lowered sign ≡ n → SeriesAt K z a sign r) → Reached (elementIn x) s r
-unfolding elementIn
-curve-reached (of p s y b) t m = reached p y b (curve-of t) (turned p y b t) m
+-- on a line nothing is divided
+pub line-measured : (l t : ℕ) → measured t (record { angle = 0; along = 100 * l; aside = 0 }) ≡ measuredBy Straight l (withSign t (pos 0))
+unfolding measuredBy localOf
+line-measured l t = ap (λ z. record { angle = withSign t (pos 0); along = pos (100 * l); aside = z }) (sign-zero t)

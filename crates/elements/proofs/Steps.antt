@@ -1,15 +1,15 @@
 -- The steps of the series on magnitudes: each number of the code, with the sign put back, is that of the definitions.
-use mathlib.Core.Path.{_≡_, sym, _∙_, ap}
+use mathlib.Core.Path.{_≡_, sym, _∙_, ap, ap₂}
 use Prim.Native.Nat.{ℕ, _-_, _*_, _≤_}
-use lib.IntN.{pos, _-ℤ_, _*ℤ_}
+use lib.IntN.{ℤ, pos, _-ℤ_, _*ℤ_}
 use Rattle.integers.specs.Signs.{withSign}
 use Rattle.integers.proofs.Order.{order, difference}
 use Rattle.integers.proofs.Signed.{*ℤ-sign, sign-*ℤ, sign-square}
 use Rattle.model.specs.Rounding.{ONE, near}
-use Rattle.model.specs.Series.{Factor, F, Series, squareOf, seriesAlong, seriesAside, cosine, sine, cosineFactor, sineFactor}
-use Rattle.elements.specs.Reached.{SeriesAt, TurnAt}
-use Rattle.elements.specs.declared.series.Reach.{Reach}
-use Rattle.elements.specs.declared.series.Turn.{Turn}
+use Rattle.model.specs.declared.Shape.the-variants.{Circular}
+use Rattle.model.specs.Series.{Factor, F, Series, Local, squareOf, seriesAlong, seriesAside, cosine, sine, cosineFactor, sineFactor, directionOf}
+use Rattle.elements.specs.Reached.{sided, measured, seriesAt}
+use Rattle.elements.specs.declared.series.Sides.{Sides}
 
 pos-sub : {m n : ℕ} → m ≤ n → pos (n - m) ≡ pos n -ℤ pos m
 pos-sub {m} {n} h = omega (order, difference (pos n) (pos m))
@@ -32,24 +32,24 @@ near-times sign m n d r e = e ∙ ap (λ z. near z d) (sym (*ℤ-sign sign (pos 
 pub near-times′ : (sign m n d r : ℕ) → withSign sign (pos r) ≡ near (withSign sign (pos (m * n))) d → withSign sign (pos r) ≡ near (withSign sign (pos m) *ℤ pos n) d
 near-times′ sign m n d r e = e ∙ ap (λ z. near z d) (sym (sign-*ℤ sign (pos m) (pos n)))
 
+abbrev local : ℤ → ℤ → Local
+local a b = record { along = a; aside = b }
+
 module _ (sign angle square : ℕ) (p : pos square ≡ squareOf (pos angle)) where
   at-angle : {f : ℕ} (k : Factor) → pos f ≡ F k (pos square) → pos f ≡ F k (squareOf (withSign sign (pos angle)))
   at-angle k e = e ∙ ap (F k) (p ∙ square-sign sign angle)
 
   -- u and v from the factors
-  pub series-at : (k : Series) (length f g : ℕ) (r : Reach) → pos f ≡ F (k .alongFactor) (pos square) → pos g ≡ F (k .asideFactor) (pos square) → r .angle ≡ angle → pos (r .along) ≡ near (pos (100 * length) *ℤ pos f) ONE → withSign sign (pos (r .aside)) ≡ near (near (pos (100 * length) *ℤ withSign sign (pos angle)) ONE *ℤ pos g) (k .asideDivisor * ONE) → SeriesAt k length angle sign r
+  pub series-at : (k : Series) (length f g u v : ℕ) → pos f ≡ F (k .alongFactor) (pos square) → pos g ≡ F (k .asideFactor) (pos square) → pos u ≡ near (pos (100 * length) *ℤ pos f) ONE → withSign sign (pos v) ≡ near (near (pos (100 * length) *ℤ withSign sign (pos angle)) ONE *ℤ pos g) (k .asideDivisor * ONE) → measured sign (record { angle = angle; along = u; aside = v }) ≡ seriesAt k length (withSign sign (pos angle))
   unfolding seriesAlong seriesAside
-  series-at k length f g r ef eg t u v =
-      record {
-        turned = t;
-        along = u ∙ ap (λ z. near (pos (100 * length) *ℤ z) ONE) (at-angle (k .alongFactor) ef);
-        aside = v ∙ ap (λ z. near (near (pos (100 * length) *ℤ withSign sign (pos angle)) ONE *ℤ z) (k .asideDivisor * ONE)) (at-angle (k .asideFactor) eg);
-      }
+  series-at k length f g u v ef eg eu ev =
+      ap₂ (λ (a b : ℤ). record { angle = withSign sign (pos angle); along = a; aside = b })
+      (eu ∙ ap (λ z. near (pos (100 * length) *ℤ z) ONE) (at-angle (k .alongFactor) ef))
+      (ev ∙ ap (λ z. near (near (pos (100 * length) *ℤ withSign sign (pos angle)) ONE *ℤ z) (k .asideDivisor * ONE)) (at-angle (k .asideFactor) eg))
 
-  pub turn-at : (f : ℕ) (r : Turn) → pos f ≡ F sineFactor (pos square) → pos (r .cosine) ≡ F cosineFactor (pos square) → withSign sign (pos (r .sine)) ≡ near (withSign sign (pos (angle * f))) ONE → TurnAt angle sign r
-  unfolding cosine sine
-  turn-at f r ef c s =
-      record {
-        along = at-angle cosineFactor c;
-        aside = near-times′ sign angle f ONE (r .sine) s ∙ ap (λ z. near (withSign sign (pos angle) *ℤ z) ONE) (at-angle sineFactor ef);
-      }
+  pub direction-at : (f : ℕ) (r : Sides) → pos f ≡ F sineFactor (pos square) → pos (r .along) ≡ F cosineFactor (pos square) → withSign sign (pos (r .aside)) ≡ near (withSign sign (pos (angle * f))) ONE → sided sign r ≡ directionOf Circular (withSign sign (pos angle))
+  unfolding directionOf cosine sine
+  direction-at f r ef c s =
+      ap₂ local
+      (at-angle cosineFactor c)
+      (near-times′ sign angle f ONE (r .aside) s ∙ ap (λ z. near (withSign sign (pos angle) *ℤ z) ONE) (at-angle sineFactor ef))

@@ -12,11 +12,11 @@ use Rattle.integers.proofs.Identity.{var, _⊖_, _⊗_}
 use Rattle.integers.proofs.Written.{writing, identityℕ}
 use Rattle.model.specs.Acceptance.{longestElement}
 use Rattle.model.specs.Rounding.{ONE, near}
-use Rattle.model.specs.Series.{factor, F, squareOf}
-use Rattle.model.specs.Bound.{Fraction, fraction, Within2, alongSum, asideSum}
+use Rattle.model.specs.Series.{factor, F, squareOf, Fraction, fraction, angleOf}
+use Rattle.model.specs.Bound.{Within2, alongSum, asideSum}
 use Rattle.rounding.proofs.Sizes.{twice-error}
 use Rattle.elements.proofs.Errors.{sized, plain, 2′, 4′, ONE′, _⊞_, _⊠_, _·_, error-by}
-use Rattle.elements.proofs.Angle.{Turn, angle, angle-error}
+use Rattle.elements.proofs.Angle.{Turn, angle-error}
 use Rattle.elements.proofs.Factor.{ThreeTerm, Close, F-close}
 
 -- k·y·D times the error of v = near(x·G, k·ONE) against X/y · S/(k·D): 2·ONE times it is y·D·δ₁ + 2·D·G·ε + 2·X·δ₀,
@@ -77,20 +77,20 @@ product-within k y x X {G} {S} {D} close h e small =
 
 -- for F(c·b; b, d)
 module _ {c b d : ℕ} (h : ThreeTerm c b d) {φ : Fraction} (turn : Turn φ) {z : ℕ} (short : z ≤ longestElement) where
-  pub near-along : Within2 (near (pos (100 * z) *ℤ F (factor (c * b) b d) (squareOf (angle φ))) ONE) (alongSum (c * b) (c * d) z (φ .numerator) (φ .denominator))
+  pub near-along : Within2 (near (pos (100 * z) *ℤ F (factor (c * b) b d) (squareOf (angleOf φ))) ONE) (alongSum (c * b) (c * d) z (φ .numerator) (φ .denominator))
   unfolding alongSum
   near-along =
       let x = pos (100 * z) in
       product-within 1 1 x x (F-close h turn) (omega arith) (omega arith) (omega (arith, once-exact x))
 
-  pub near-aside : (k : ℕ) → 2 ≤ k → Within2 (near (near (pos (100 * z) *ℤ angle φ) ONE *ℤ F (factor (c * b) b d) (squareOf (angle φ))) (k * ONE)) (asideSum k (c * b) (c * d) z (φ .numerator) (φ .denominator))
+  pub near-aside : (k : ℕ) → 2 ≤ k → Within2 (near (near (pos (100 * z) *ℤ angleOf φ) ONE *ℤ F (factor (c * b) b d) (squareOf (angleOf φ))) (k * ONE)) (asideSum k (c * b) (c * d) z (φ .numerator) (φ .denominator))
   unfolding asideSum
   near-aside k several =
       let q = φ .denominator in
       let m = φ .numerator in
       let n = 100 * z in
-      let w = near (pos n *ℤ angle φ) ONE in
-      let close = width-error q n m (angle φ) w (omega arith) (angle-error turn) (twice-error {d = ONE} (omega arith) (pos n *ℤ angle φ)) in
+      let w = near (pos n *ℤ angleOf φ) ONE in
+      let close = width-error q n m (angleOf φ) w (omega arith) (angle-error turn) (twice-error {d = ONE} (omega arith) (pos n *ℤ angleOf φ)) in
       let quarter = natAbs-* (pos 4) (pos q *ℤ w -ℤ pos n *ℤ m) in
       product-within k q w (pos n *ℤ m) (F-close h turn) (omega arith)
       (identityℕ {ρ = pos k ∷ pos c ∷ pos b ∷ pos d ∷ pos q ∷ []} (search writing depth 20) (search writing depth 20) tt)

@@ -1,5 +1,6 @@
 -- The exact sums of an element move by at most 122 grains along and 79 aside for each mm. With lengths z up to L, the turn is z/q with 2L ≤ q on an arc,
 -- and z²/q with 2L² ≤ q on a spiral; both are at most 1/2, and z times the change of twice the turn is at most 2 j.
+use mathlib.Core.Bool.{Bool, true, false}
 use mathlib.Core.Path.{_≡_, refl, ap}
 use mathlib.Core.List.{[], _∷_}
 use Prim.Native.Nat.{ℕ, _+_, _-_, _*_, _<_, _≤_}
@@ -10,14 +11,15 @@ use Rattle.integers.proofs.Order.{order, difference, parts}
 use Rattle.integers.proofs.Abs.{natAbs-neg}
 use Rattle.integers.proofs.Ranges.{abs-within}
 use Rattle.integers.proofs.Written.{writing, identity, identityℕ}
-use Rattle.model.specs.declared.Kind.{Kind}
-use Rattle.model.specs.declared.Kind.the-variants.{Line, Arc, EntrySpiral, ExitSpiral}
+use Rattle.model.specs.declared.Shape.{Shape}
+use Rattle.model.specs.declared.Shape.the-variants.{Straight, Circular, Clothoid}
 use Rattle.model.specs.declared.Element.{Element}
-use Rattle.model.specs.Series.{fromAnchor, signedBy, lengthAt}
-use Rattle.model.specs.Bound.{turnOf, exactAlong, exactAside}
+use Rattle.model.specs.Kinds.{shapeOf, anchoredFar}
+use Rattle.model.specs.Series.{fromAnchor, wholeLength, signedBy, turnOf, lengthAt, turnAt}
+use Rattle.model.specs.Bound.{exactAlong, exactAside, exactAlongAt, exactAsideAt}
 use Rattle.model.specs.Accepted.{Accepted}
 use Rattle.model.proofs.Accepted.{RadiusFits, numbers}
-use Rattle.elements.proofs.Angle.{fromAnchor-within}
+use Rattle.elements.proofs.Angle.{lengthAt-whole}
 use Rattle.elements.proofs.Moves.{twice, Turning, Moved, along-moves, aside-moves}
 
 -- ---- the length from the anchor
@@ -25,12 +27,14 @@ use Rattle.elements.proofs.Moves.{twice, Turning, Moved, along-moves, a
 gap-≤ : (m n j : ℕ) → m ≤ n + j → n ≤ m + j → natAbs (pos m -ℤ pos n) ≤ j
 gap-≤ m n j h k = omega (order, difference (pos m) (pos n), parts (pos m -ℤ pos n))
 
-length-apart : (k : Kind) (l s j : ℕ) → s + j ≤ l → natAbs (pos (fromAnchor k l s) -ℤ pos (fromAnchor k l (s + j))) ≤ j
+from-apart : (far : Bool) (l s j : ℕ) → s + j ≤ l → natAbs (pos (fromAnchor far l s) -ℤ pos (fromAnchor far l (s + j))) ≤ j
 unfolding fromAnchor
-length-apart Line l s j h = gap-≤ s (s + j) j (omega arith) (omega arith)
-length-apart Arc l s j h = gap-≤ s (s + j) j (omega arith) (omega arith)
-length-apart EntrySpiral l s j h = gap-≤ s (s + j) j (omega arith) (omega arith)
-length-apart ExitSpiral l s j h = gap-≤ (l - s) (l - (s + j)) j (omega arith) (omega arith)
+from-apart false l s j h = gap-≤ s (s + j) j (omega arith) (omega arith)
+from-apart true l s j h = gap-≤ (l - s) (l - (s + j)) j (omega arith) (omega arith)
+
+length-apart : (e : Element) (s j : ℕ) → s + j ≤ e .length → natAbs (pos (lengthAt e s) -ℤ pos (lengthAt e (s + j))) ≤ j
+unfolding lengthAt
+length-apart e s j h = from-apart (anchoredFar (e .kind)) (e .length) s j h
 
 -- ---- the sign of the radius
 
@@ -99,41 +103,46 @@ module _ (l z₁ z₂ j : ℕ) (h₁ : z₁ ≤ l) (h₂ : z₂ ≤ l) (a : natA
             (mul-le-mul-left 2 (mul-le-mul-left j (mul-le-mul-right l (mul-le-mul-left 2 h))));
       }
 
--- ---- an element of any kind
+-- ---- an element of any shape
 
 -- for each of j mm both exact sums move by at most 122 and 79 grains
-pub record BothMoved (k : Kind) (r : ℤ) (l z₁ z₂ j : ℕ) : Type 0 where
-  pub along : Moved (122 * j) (exactAlong k z₁ (turnOf k r l z₁)) (exactAlong k z₂ (turnOf k r l z₂))
-  pub aside : Moved (79 * j) (exactAside k z₁ (turnOf k r l z₁)) (exactAside k z₂ (turnOf k r l z₂))
+record BothMoved (k : Shape) (r : ℤ) (l z₁ z₂ j : ℕ) : Type 0 where
+  along : Moved (122 * j) (exactAlong k z₁ (turnOf k r l z₁)) (exactAlong k z₂ (turnOf k r l z₂))
+  aside : Moved (79 * j) (exactAside k z₁ (turnOf k r l z₁)) (exactAside k z₂ (turnOf k r l z₂))
 
 module _ (r : ℤ) (l z₁ z₂ j : ℕ) (h : 1 ≤ l) (h₁ : z₁ ≤ l) (h₂ : z₂ ≤ l) (a : natAbs (pos z₁ -ℤ pos z₂) ≤ j) where
   hundredfold : natAbs (pos (100 * z₁) -ℤ pos (100 * z₂)) ≤ 122 * j * 1
   hundredfold = let d = pos z₁ -ℤ pos z₂ in omega (order, difference (pos z₁) (pos z₂), parts d, difference (pos (100 * z₁)) (pos (100 * z₂)), parts (pos (100 * z₁) -ℤ pos (100 * z₂)))
 
-  spiral-moves : l ≤ natAbs r → BothMoved EntrySpiral r l z₁ z₂ j
-  unfolding exactAlong exactAside turnOf
-  spiral-moves f =
-      let t = signed-turning (spiral-turning l z₁ z₂ j h₁ h₂ a f) r in
-      let q : 0 < 2 * natAbs r * l = mul-pos {m = 2 * natAbs r} {n = l} (omega arith) h in
-      record { along = along-moves t q 10 216 122 (omega arith) (omega arith); aside = aside-moves t q 3 14 440 79 (omega arith) (omega arith) }
-
-  both-move : (k : Kind) → RadiusFits k l (natAbs r) → BothMoved k r l z₁ z₂ j
+  both-move : (k : Shape) → RadiusFits k l (natAbs r) → BothMoved k r l z₁ z₂ j
   unfolding exactAlong exactAside turnOf RadiusFits
-  both-move Line f =
+  both-move Straight f =
       record {
         along = record { same = refl; above = omega arith; moved = hundredfold };
         aside = record { same = refl; above = omega arith; moved = omega arith };
       }
-  both-move Arc f =
+  both-move Circular f =
       let t = signed-turning (arc-turning l z₁ z₂ j h₁ h₂ a (f .0)) r in
       let q : 0 < natAbs r = omega arith in
       record { along = along-moves t q 6 120 122 (omega arith) (omega arith); aside = aside-moves t q 2 12 360 79 (omega arith) (omega arith) }
-  both-move EntrySpiral f = spiral-moves (f .0)
-  both-move ExitSpiral f = let m = spiral-moves (f .0) in record { along = m .along; aside = m .aside }
+  both-move Clothoid f =
+      let t = signed-turning (spiral-turning l z₁ z₂ j h₁ h₂ a (f .0)) r in
+      let q : 0 < 2 * natAbs r * l = mul-pos {m = 2 * natAbs r} {n = l} (omega arith) h in
+      record { along = along-moves t q 10 216 122 (omega arith) (omega arith); aside = aside-moves t q 3 14 440 79 (omega arith) (omega arith) }
 
-pub exact-moves : (e : Element) → Accepted e → (s j : ℕ) → s + j ≤ e .length → BothMoved (e .kind) (e .radius) (e .length) (lengthAt e s) (lengthAt e (s + j)) j
-unfolding lengthAt
+-- the exact sums of an element, j mm apart
+pub record ExactMoved (e : Element) (s j : ℕ) : Type 0 where
+  pub along : Moved (122 * j) (exactAlongAt e s) (exactAlongAt e (s + j))
+  pub aside : Moved (79 * j) (exactAsideAt e s) (exactAsideAt e (s + j))
+
+pub exact-moves : (e : Element) → Accepted e → (s j : ℕ) → s + j ≤ e .length → ExactMoved e s j
+unfolding exactAlongAt exactAsideAt turnAt
 exact-moves e a s j h =
-    let k = e .kind in
-    let l = e .length in
-    both-move (e .radius) l (fromAnchor k l s) (fromAnchor k l (s + j)) j (numbers a .shortest) (fromAnchor-within k l s (omega arith)) (fromAnchor-within k l (s + j) h) (length-apart k l s j h) k (numbers a .radius)
+    let both =
+    both-move (e .radius) (wholeLength e) (lengthAt e s) (lengthAt e (s + j)) j (numbers a .shortest)
+    (lengthAt-whole e (omega arith))
+    (lengthAt-whole e h)
+    (length-apart e s j h)
+    (shapeOf (e .kind))
+    (numbers a .radius) in
+    record { along = both .along; aside = both .aside }

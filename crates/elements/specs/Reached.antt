@@ -1,22 +1,27 @@
--- What is computed for a station, as magnitudes: the angle t, u and v. Their signs are those of the radius, and of the kind for u.
-use Prim.Native.Nat.{ℕ, _%_, _^_, _<_, _≤_}
+-- What is computed for a station, as magnitudes: the angle t, u and v. The sign of t and v is that of the radius; u is negative where the anchor is the far end.
+use Prim.Native.Nat.{ℕ, _+_, _*_, _/_, _%_, _^_, _<_, _≤_}
 use mathlib.Core.Path.{_≡_}
 use lib.IntN.{ℤ, pos, natAbs}
 use Rattle.integers.specs.Signs.{withSign, signOf}
+use Rattle.model.specs.declared.Shape.{Shape}
+use Rattle.model.specs.declared.Kind.{Kind}
+use Rattle.model.specs.declared.Shape.the-variants.{Straight, Circular, Clothoid}
+use Rattle.model.specs.declared.Element.{Element}
+use Rattle.model.specs.declared.Point.{Point}
+use Rattle.model.specs.Kinds.{shapeOf, anchoredFar}
 use Rattle.model.specs.Acceptance.{longestElement, frame}
 use Rattle.model.specs.Rounding.{ONE}
 use Rattle.model.specs.Series as model
-use Rattle.model.specs.Series.{Series, seriesAlong, seriesAside, cosine, sine, angleAt, localAt, turned, movedBy}
-use Rattle.model.specs.declared.Element.{Element}
-use Rattle.model.specs.declared.Point.{Point}
-use Rattle.model.specs.declared.Kind.{Kind}
+use Rattle.model.specs.Series.{Local, Series, wholeLength, turnOf, angleOf, localOf, directionOf, facing, seriesAlong, seriesAside, turned, movedBy}
 use Rattle.elements.specs.declared.Placement.{Placement}
-use Rattle.elements.specs.declared.series.Reach.{Reach}
+use Rattle.elements.specs.declared.series.Sides.{Sides}
 use Rattle.elements.specs.declared.series.Factor.{Factor}
 use Rattle.elements.specs.declared.series.Numbers.{Numbers}
-use Rattle.elements.specs.declared.series.Turn.{Turn}
+use Rattle.elements.specs.declared.series.Magnitudes.{Magnitudes}
 use Rattle.elements.specs.declared.Prepared.{Prepared}
-use Rattle.elements.specs.Prepared.{backward, Ready}
+use Rattle.elements.specs.Prepared.{Ready}
+
+-- ---- the series
 
 -- the numbers of a factor, and of a series, as the code holds them
 abbrev pub factorOf : Factor → model.Factor
@@ -33,7 +38,7 @@ pub record Factorable (square : ℕ) (f : Factor) : Type 0 where
   pub inner : (1 < f .d) × (f .d ≤ 220)
   pub even : f .d % 2 ≡ 0
 
--- what the series ask of a length in mm, an angle and what is taken off before a rounding
+-- what the series ask of a length in mm, of an angle and of what is taken off for a half
 pub record Curved (length angle off : ℕ) : Type 0 where
   pub longest : length ≤ longestElement
   pub widest : angle ≤ 2 ^ 29
@@ -45,22 +50,40 @@ pub record Usable (k : Numbers) : Type 0 where
   pub aside : Factorable (2 ^ 28) (k .aside)
   pub divisor : (1 ≤ k .divisor) × (k .divisor ≤ 3)
 
--- r is u and v of a series at a length in mm and an angle
-pub record SeriesAt (k : Series) (length angle sign : ℕ) (r : Reach) : Type 0 where
-  pub turned : r .angle ≡ angle
-  pub along : pos (r .along) ≡ seriesAlong k length (withSign sign (pos angle))
-  pub aside : withSign sign (pos (r .aside)) ≡ seriesAside k length (withSign sign (pos angle))
+-- the components of a direction from their magnitudes and the sign of the angle
+abbrev pub sided : ℕ → Sides → Local
+sided sign r = record { along = pos (r .along); aside = withSign sign (pos (r .aside)) }
 
--- r is the direction at an angle
-pub record TurnAt (angle sign : ℕ) (r : Turn) : Type 0 where
-  pub along : pos (r .cosine) ≡ cosine (withSign sign (pos angle))
-  pub aside : withSign sign (pos (r .sine)) ≡ sine (withSign sign (pos angle))
+-- ---- the angle, u and v, but U and V of a clothoid
 
--- r is the angle, u and v of an element at s mm from its start
-pub record Reached (e : Element) (s : ℕ) (r : Reach) : Type 0 where
-  pub turned : withSign (signOf (e .radius)) (pos (r .angle)) ≡ angleAt e s
-  pub along : withSign (backward (e .kind)) (pos (r .along)) ≡ localAt e s .along
-  pub aside : withSign (signOf (e .radius)) (pos (r .aside)) ≡ localAt e s .aside
+pub record Measured : Type 0 where
+  pub angle : ℤ
+  pub along : ℤ
+  pub aside : ℤ
+
+-- from their magnitudes and the sign of the angle
+abbrev pub measured : ℕ → Magnitudes → Measured
+measured sign r = record { angle = withSign sign (pos (r .angle)); along = pos (r .along); aside = withSign sign (pos (r .aside)) }
+
+-- by a series, at a length in mm and an angle
+abbrev pub seriesAt : Series → ℕ → ℤ → Measured
+seriesAt k length t = record { angle = t; along = seriesAlong k length t; aside = seriesAside k length t }
+
+-- by the shape of a curve
+unfoldable pub measuredBy : Shape → ℕ → ℤ → Measured
+unfolding localOf
+measuredBy k l t = let w = localOf k l t in record { angle = t; along = w .along; aside = w .aside }
+
+-- of an element, at l mm from its anchor
+unfoldable pub measuredAt : Element → ℕ → Measured
+unfolding measuredBy shapeOf turnOf angleOf
+measuredAt e l = let k = shapeOf (e .kind) in measuredBy k l (angleOf (turnOf k (e .radius) (wholeLength e) l))
+
+-- the magnitude of the angle as it is computed l mm from the anchor, of the prepared half and divisor
+unfoldable pub quotientOf : Shape → ℕ → ℕ → ℕ → ℕ
+quotientOf Straight l half divisor = 0
+quotientOf Circular l half divisor = (2 * (ONE * l) + half) / divisor
+quotientOf Clothoid l half divisor = (ONE * (l * l) + half) / divisor
 
 -- what u and v at a station depend on: kind, length, what is taken off, divisor and half of an element that is prepared, and s mm from its start
 pub data Reachable : Kind → ℕ → ℕ → ℕ → ℕ → ℕ → Type 0 where
@@ -69,29 +92,27 @@ pub data Reachable : Kind → ℕ → ℕ → ℕ → ℕ → ℕ → Type 0 whe
 unfoldable pub elementIn : {kind : Kind} {length off divisor half s : ℕ} → Reachable kind length off divisor half s → Element
 elementIn (of p s y h) = p .element
 
--- r is the angle, u and v of every element that has these numbers
-abbrev pub ReachedBy : Kind → ℕ → ℕ → ℕ → ℕ → ℕ → Reach → Type 0
-ReachedBy kind length off divisor half s r = (x : Reachable kind length off divisor half s) → Reached (elementIn x) s r
+-- ---- in the plane
 
 -- the position from the magnitudes of u and v, and the direction from that of the angle
-unfoldable pub pointOf : Element → Reach → Point
-unfolding movedBy turned backward withSign signOf
+unfoldable pub pointOf : Element → Magnitudes → Point
+unfolding movedBy turned facing anchoredFar withSign signOf
 pointOf e r =
     movedBy (e .x) (e .y)
     (turned (e .c) (e .s)
-    (record { along = withSign (backward (e .kind)) (pos (r .along)); aside = withSign (signOf (e .radius)) (pos (r .aside)) }))
+    (record { along = facing (anchoredFar (e .kind)) (pos (r .along)); aside = withSign (signOf (e .radius)) (pos (r .aside)) }))
 
 unfoldable pub headingOf : Element → ℕ → Point
-unfolding turned cosine sine backward withSign signOf
+unfolding turned directionOf facing anchoredFar withSign signOf
 headingOf e angle =
-    let t = withSign (signOf (e .radius)) (pos angle) in
-    turned (e .c) (e .s) (record { along = cosine t; aside = withSign (backward (e .kind)) (sine t) })
+    let w = directionOf Circular (withSign (signOf (e .radius)) (pos angle)) in
+    turned (e .c) (e .s) (record { along = w .along; aside = facing (anchoredFar (e .kind)) (w .aside) })
 
 abbrev pub placementOf : Point → Point → Placement
 placementOf p t = record { x = p .x; y = p .y; tx = t .x; ty = t .y }
 
 -- what a point asks of its magnitudes
-pub record Near (r : Reach) : Type 0 where
+pub record Near (r : Magnitudes) : Type 0 where
   pub along : r .along ≤ ONE
   pub aside : r .aside ≤ ONE
 

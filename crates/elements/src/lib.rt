@@ -1,25 +1,32 @@
 // Position and direction on one element, in 64 bits, equal to the definitions of `model` for every accepted element.
 // What depends on the element alone is prepared once; a station is then computed from magnitudes.
-use crate::series::Reach;
-use integers::signs;
+use crate::series::Magnitudes;
+use integers::signs::sign_of;
+use integers::signs::with_sign;
 use model::Element;
 use model::Kind;
 use model::Point;
+use model::Shape;
+use model::anchored_far;
+use model::shape_of;
 use model::units;
+use rounding::lowered_for;
+use rounding::near_one;
 ghost use mathlib.Core.Path.{_≡_};
 ghost use Prim.Native.Nat.{_^_, _≤_};
-ghost use lib.IntN.{pos, _+ℤ_, _*ℤ_};
+ghost use lib.IntN.{pos, natAbs, _+ℤ_, _*ℤ_};
+ghost use Rattle.integers.specs.Signs.{signOf};
 ghost use Rattle.model.specs.Rounding.{ONE, near};
 ghost use Rattle.model.specs.Acceptance.{longestElement, widest};
 ghost use Rattle.model.specs.Accepted.{Accepted};
-ghost use Rattle.model.specs.Series.{positionOn, tangentOn};
-ghost use Rattle.elements.specs.Prepared.{divisorOf, backward, preparedOf, Ready};
-ghost use Rattle.elements.specs.Reached.{Turnable, Near, Reachable, ReachedBy, pointOf, headingOf, placementOf};
+ghost use Rattle.model.specs.Series.{fromAnchor, facing, lengthAt, positionOn, tangentOn};
+ghost use Rattle.elements.specs.Prepared.{divisorOf, preparedOf, Ready};
+ghost use Rattle.elements.specs.Reached.{Turnable, Near, measured, measuredAt, Reachable, elementIn, pointOf, headingOf, placementOf};
 
 mod series;
 
-// What depends on the element alone: what is taken off before a magnitude is divided and rounded, the divisor of the angle with what
-// is added before the division, and the axes along which the magnitudes of u and of v count.
+// What depends on the element alone: the divisor of the angle with what is added before the division, what is taken off for a
+// half of a number with the sign of the radius, and the axes along which the magnitudes of u and of v count.
 pub struct Prepared {
     pub element: Element,
     pub off: u64,
@@ -40,28 +47,23 @@ pub struct Placement {
 }
 
 // The divisor of the angle, doubled on an arc.
-fn divisor_of(kind: Kind, radius: u64, length: u64) -> u64
-    requires { ⌜ (radius ≤ widest) × (length ≤ longestElement) ⌝ }
-    ensures { λ r. ⌜ r ≡ divisorOf kind radius length ⌝ }
+fn divisor_of(shape: Shape, radius: u64, whole: u64) -> u64
+    requires { ⌜ (radius ≤ widest) × (whole ≤ longestElement) ⌝ }
+    ensures { λ r. ⌜ r ≡ divisorOf shape radius whole ⌝ }
 {
-    match kind {
-        Kind::Line => 0,
-        Kind::Arc => 2 * radius,
-        Kind::EntrySpiral => 2 * radius * length,
-        Kind::ExitSpiral => 2 * radius * length,
+    match shape {
+        Shape::Straight => 0,
+        Shape::Circular => 2 * radius,
+        Shape::Clothoid => 2 * radius * whole,
     }
 }
 
-// 1 where u is negative.
-fn backward_on(kind: Kind) -> u64
-    ensures { λ r. ⌜ r ≡ backward kind ⌝ }
+// A component along the axis of u, or of the direction across it: negated where the anchor is the far end.
+fn faced(far: bool, z: i64) -> i64
+    requires { ⌜ natAbs z ≤ 2 ^ 32 ⌝ }
+    ensures { λ r. ⌜ r ≡ facing far z ⌝ }
 {
-    match kind {
-        Kind::Line => 0,
-        Kind::Arc => 0,
-        Kind::EntrySpiral => 0,
-        Kind::ExitSpiral => 1,
-    }
+    if far { 0 - z } else { z }
 }
 
 // An accepted element, prepared.
@@ -71,37 +73,51 @@ pub fn prepare(e: Element) -> Prepared
     ensures ready { λ r. ⌜ Ready r ⌝ }
 {
     let kind = e.kind;
-    let negative = signs::sign_of(e.radius);
-    let off = rounding::lowered_for(negative);
-    let divisor = divisor_of(kind, integers::magnitude(e.radius), e.length);
-    let back = backward_on(kind);
+    let negative = sign_of(e.radius);
+    let off = lowered_for(negative);
+    let divisor = divisor_of(shape_of(kind), integers::magnitude(e.radius), e.length);
+    let far = anchored_far(kind);
     Prepared {
         element: e,
         off,
         divisor,
         half: divisor / 2 - off,
-        ux: signs::with_sign(back, e.c),
-        uy: signs::with_sign(back, e.s),
-        vx: signs::with_sign(negative, signs::with_sign(1, e.s)),
-        vy: signs::with_sign(negative, e.c),
+        ux: faced(far, e.c),
+        uy: faced(far, e.s),
+        vx: with_sign(negative, with_sign(1, e.s)),
+        vy: with_sign(negative, e.c),
     }
 }
 
-// The angle, u and v at s mm from the element's start, by the numbers that they depend on.
-fn reach(kind: Kind, length: u64, off: u64, divisor: u64, half: u64, s: u64) -> Reach
+// The length from the anchor, at s mm from the start of an element.
+fn from_anchor(far: bool, length: u64, s: u64) -> u64
+    requires { ⌜ s ≤ length ⌝ }
+    ensures { λ r. ⌜ r ≡ fromAnchor far length s ⌝ }
+{
+    if far { length - s } else { s }
+}
+
+// The angle, u and v (U and V on a spiral) at s mm from the element's start, by the numbers that they depend on. Each kind is a constant in its arm.
+fn reach(kind: Kind, length: u64, off: u64, divisor: u64, half: u64, s: u64) -> Magnitudes
     requires { ⌜ Reachable kind length off divisor half s ⌝ }
-    ensures { λ r. ⌜ ReachedBy kind length off divisor half s r ⌝ }
+    ensures { λ r. ⌜ ((x : Reachable kind length off divisor half s) → measured (signOf (elementIn x .radius)) r ≡ measuredAt (elementIn x) (lengthAt (elementIn x) s)) ⌝ }
 {
     match kind {
-        Kind::Line => Reach {
+        Kind::Line => Magnitudes {
             angle: 0,
-            along: units::GRAINS * s,
+            along: units::GRAINS * from_anchor(false, length, s),
             aside: 0,
         },
-        Kind::Arc => series::arc(s, series::arc_angle(s, half, divisor), off),
-        Kind::EntrySpiral => series::spiral(s, series::spiral_angle(s, half, divisor), off),
+        Kind::Arc => {
+            let l = from_anchor(false, length, s);
+            series::arc(l, series::arc_angle(l, half, divisor), off)
+        }
+        Kind::EntrySpiral => {
+            let l = from_anchor(false, length, s);
+            series::spiral(l, series::spiral_angle(l, half, divisor), off)
+        }
         Kind::ExitSpiral => {
-            let l = length - s;
+            let l = from_anchor(true, length, s);
             series::spiral(l, series::spiral_angle(l, half, divisor), off)
         }
     }
@@ -112,11 +128,11 @@ fn turned(x: i64, a: i64, u: u64, b: i64, v: u64) -> i64
     requires { ⌜ Turnable x a u b v ⌝ }
     ensures { λ r. ⌜ r ≡ x +ℤ near (a *ℤ pos u +ℤ b *ℤ pos v) ONE ⌝ }
 {
-    x + rounding::near_one(a * (u as i64) + b * (v as i64))
+    x + near_one(a * (u as i64) + b * (v as i64))
 }
 
 // The position from the magnitudes of u and v.
-fn point_at(p: Prepared, r: Reach) -> Point
+fn point_at(p: Prepared, r: Magnitudes) -> Point
     requires { ⌜ Ready p ⌝ }
     requires { ⌜ Near r ⌝ }
     ensures { λ q. ⌜ q ≡ pointOf (p .element) r ⌝ }
@@ -128,7 +144,7 @@ fn point_at(p: Prepared, r: Reach) -> Point
     }
 }
 
-// The direction from the magnitude of the angle. On an exit spiral it turns the other way than v lies, so the axis of v is negated.
+// The direction from the magnitude of the angle. Where the anchor is the far end it turns the other way than v lies, so the axis of v is negated.
 fn heading_at(p: Prepared, angle: u64) -> Point
     requires { ⌜ Ready p ⌝ }
     requires { ⌜ angle ≤ 2 ^ 29 ⌝ }
@@ -137,10 +153,10 @@ fn heading_at(p: Prepared, angle: u64) -> Point
     let e = p.element;
     let kind = e.kind;
     let d = series::direction(angle, p.off);
-    let back = backward_on(kind);
+    let far = anchored_far(kind);
     Point {
-        x: turned(0, e.c, d.cosine, signs::with_sign(back, p.vx), d.sine),
-        y: turned(0, e.s, d.cosine, signs::with_sign(back, p.vy), d.sine),
+        x: turned(0, e.c, d.along, faced(far, p.vx), d.aside),
+        y: turned(0, e.s, d.along, faced(far, p.vy), d.aside),
     }
 }
 

@@ -5,12 +5,13 @@ use rounding::near_even;
 ghost use mathlib.Core.Path.{_≡_};
 ghost use Prim.Native.Nat.{ℕ, _+_, _*_, _/_, _^_, _<_, _≤_};
 ghost use lib.IntN.{pos, _*ℤ_};
-ghost use Rattle.model.specs.Acceptance.{longestElement};
-ghost use Rattle.model.specs.Rounding.{ONE, near};
-ghost use Rattle.model.specs.Series.{F, squareOf, arcSeries, spiralSeries};
 ghost use Rattle.integers.specs.Signs.{withSign};
+ghost use Rattle.model.specs.declared.Shape.the-variants.{Circular, Clothoid};
+ghost use Rattle.model.specs.Acceptance.{longestElement, widest};
+ghost use Rattle.model.specs.Rounding.{ONE, near};
+ghost use Rattle.model.specs.Series.{F, squareOf, directionOf};
 ghost use Rattle.rounding.specs.Rounded.{lowered};
-ghost use Rattle.elements.specs.Reached.{factorOf, seriesOf, Factorable, Curved, Usable, SeriesAt, TurnAt};
+ghost use Rattle.elements.specs.Reached.{factorOf, seriesOf, Factorable, Curved, Usable, measured, measuredBy, seriesAt, sided};
 
 // The numbers of F(a; b, d).
 pub struct Factor {
@@ -51,16 +52,16 @@ const COSINE: Factor = Factor { a: 2, b: 1, d: 12 };
 const SINE: Factor = Factor { a: 6, b: 1, d: 20 };
 
 // The magnitudes of the angle t, of u and of v.
-pub struct Reach {
+pub struct Magnitudes {
     pub angle: u64,
     pub along: u64,
     pub aside: u64,
 }
 
-// The magnitudes of the direction in the element's own frame.
-pub struct Turn {
-    pub cosine: u64,
-    pub sine: u64,
+// The magnitudes of the components of a direction in the element's own frame.
+pub struct Sides {
+    pub along: u64,
+    pub aside: u64,
 }
 
 // p, the square of the angle.
@@ -90,7 +91,7 @@ pub fn along(length: u64, f: u64) -> u64
     near_even(GRAINS * length * f, ONE, 0)
 }
 
-// v, of a length in mm, an angle, the factor of v and its divisor.
+// v, of a length in mm, an angle, what is taken off for a half, the factor of v and its divisor.
 pub fn aside(length: u64, angle: u64, off: u64, f: u64, divisor: u64) -> u64
     requires { ⌜ Curved length angle off ⌝ }
     requires { ⌜ (f ≤ ONE) × (1 ≤ divisor) × (divisor ≤ 3) ⌝ }
@@ -101,15 +102,15 @@ pub fn aside(length: u64, angle: u64, off: u64, f: u64, divisor: u64) -> u64
 }
 
 // u and v of a curve by the numbers of its series.
-fn curve(k: Numbers, length: u64, angle: u64, off: u64) -> Reach
+fn curve(k: Numbers, length: u64, angle: u64, off: u64) -> Magnitudes
     requires { ⌜ Usable k ⌝ }
     requires { ⌜ Curved length angle off ⌝ }
-    ensures { λ r. ⌜ ((sign : ℕ) → sign ≤ 1 → lowered sign ≡ off → SeriesAt (seriesOf k) length angle sign r) ⌝ }
+    ensures { λ r. ⌜ ((sign : ℕ) → sign ≤ 1 → lowered sign ≡ off → measured sign r ≡ seriesAt (seriesOf k) length (withSign sign (pos angle))) ⌝ }
 {
     let square = square_of(angle);
     let f = k.along;
     let g = k.aside;
-    Reach {
+    Magnitudes {
         angle,
         along: along(length, factor_of(square, f)),
         aside: aside(length, angle, off, factor_of(square, g), k.divisor),
@@ -117,36 +118,36 @@ fn curve(k: Numbers, length: u64, angle: u64, off: u64) -> Reach
 }
 
 // u and v of an arc.
-pub fn arc(length: u64, angle: u64, off: u64) -> Reach
+pub fn arc(length: u64, angle: u64, off: u64) -> Magnitudes
     requires { ⌜ Curved length angle off ⌝ }
-    ensures { λ r. ⌜ ((sign : ℕ) → sign ≤ 1 → lowered sign ≡ off → SeriesAt arcSeries length angle sign r) ⌝ }
+    ensures { λ r. ⌜ ((sign : ℕ) → sign ≤ 1 → lowered sign ≡ off → measured sign r ≡ measuredBy Circular length (withSign sign (pos angle))) ⌝ }
 {
     curve(ARC, length, angle, off)
 }
 
 // U and V of a spiral.
-pub fn spiral(length: u64, angle: u64, off: u64) -> Reach
+pub fn spiral(length: u64, angle: u64, off: u64) -> Magnitudes
     requires { ⌜ Curved length angle off ⌝ }
-    ensures { λ r. ⌜ ((sign : ℕ) → sign ≤ 1 → lowered sign ≡ off → SeriesAt spiralSeries length angle sign r) ⌝ }
+    ensures { λ r. ⌜ ((sign : ℕ) → sign ≤ 1 → lowered sign ≡ off → measured sign r ≡ measuredBy Clothoid length (withSign sign (pos angle))) ⌝ }
 {
     curve(SPIRAL, length, angle, off)
 }
 
-// The direction, before a sign of the kind.
-pub fn direction(angle: u64, off: u64) -> Turn
+// The direction on a curve, before it is negated where the anchor is the far end.
+pub fn direction(angle: u64, off: u64) -> Sides
     requires { ⌜ Curved 0 angle off ⌝ }
-    ensures { λ r. ⌜ ((sign : ℕ) → sign ≤ 1 → lowered sign ≡ off → TurnAt angle sign r) ⌝ }
+    ensures { λ r. ⌜ ((sign : ℕ) → sign ≤ 1 → lowered sign ≡ off → sided sign r ≡ directionOf Circular (withSign sign (pos angle))) ⌝ }
 {
     let square = square_of(angle);
-    Turn {
-        cosine: factor_of(square, COSINE),
-        sine: near_even(angle * factor_of(square, SINE), ONE, off),
+    Sides {
+        along: factor_of(square, COSINE),
+        aside: near_even(angle * factor_of(square, SINE), ONE, off),
     }
 }
 
 // The magnitude of t on an arc: near of twice the numerator over twice the radius.
 pub fn arc_angle(s: u64, half: u64, divisor: u64) -> u64
-    requires { ⌜ (s ≤ longestElement) × (half ≤ 10000000) × (1 ≤ divisor) ⌝ }
+    requires { ⌜ (s ≤ longestElement) × (half ≤ widest) × (1 ≤ divisor) ⌝ }
     ensures { λ r. ⌜ r ≡ (2 * (ONE * s) + half) / divisor ⌝ }
 {
     (2 * (ONE * s) + half) / divisor

@@ -6,15 +6,17 @@ use lib.ListN.{length}
 use lib.Dec.{leb, eqb}
 use lib.IntN.{ℤ, pos, natAbs, _+ℤ_, _-ℤ_, _*ℤ_}
 use Rattle.model.specs.declared.Kind.{Kind}
-use Rattle.model.specs.declared.Kind.the-variants.{Line, Arc, EntrySpiral, ExitSpiral}
+use Rattle.model.specs.declared.Kind.the-variants.{Line}
+use Rattle.model.specs.declared.Shape.{Shape}
+use Rattle.model.specs.declared.Shape.the-variants.{Straight, Circular, Clothoid}
 use Rattle.model.specs.declared.KindByte.{KindByte}
 use Rattle.model.specs.declared.KindByte.the-variants.{Damaged, Known, Later}
 use Rattle.model.specs.declared.Element.{Element}
 use Rattle.model.specs.declared.Point.{Point}
-use Rattle.model.specs.Kinds.{decide}
+use Rattle.model.specs.Kinds.{decide, shapeOf}
 use Rattle.model.specs.Records.{byteAt, u16At, u32At, i32At, part, allZero, sumA, sumB, blockSize, recordSize, perBlock, fieldsAt, editionAt, edition, zerosAt, zeroCount, sumsAt, sumBAt, kindAt, firstZerosAt, firstZeroCount, recordLengthAt, xAt, yAt, cAt, sAt, radiusAt, lastZerosAt, lastZeroCount, blockCount, blockOf, usedIn, recordBytes, countOf, recordOf}
 use Rattle.model.specs.Refusals.{Rule, rule, rule₀, forEach, byteCount, checksum, blockField, damagedRecord, laterKind, fieldOutOfRange, notUnit, gap, kink}
-use Rattle.model.specs.Series.{positionOn, tangentOn}
+use Rattle.model.specs.Series.{wholeLength, positionOn, tangentOn}
 
 -- ---- the limits
 
@@ -118,16 +120,15 @@ unfoldable pub lengthGood : ℕ → Bool
 lengthGood l = leb 1 l && leb l longestElement
 
 -- "line R = 0; arc 2L ≤ |R| ≤ 10,000,000; spiral L ≤ |R| ≤ 10,000,000"
-unfoldable pub radiusGood : Kind → ℕ → ℕ → Bool
-radiusGood Line l r = eqb r 0
-radiusGood Arc l r = leb (2 * l) r && leb r widest
-radiusGood EntrySpiral l r = leb l r && leb r widest
-radiusGood ExitSpiral l r = leb l r && leb r widest
+unfoldable pub radiusGood : Shape → ℕ → ℕ → Bool
+radiusGood Straight l r = eqb r 0
+radiusGood Circular l r = leb (2 * l) r && leb r widest
+radiusGood Clothoid l r = leb l r && leb r widest
 
 -- "length, radius, x or y out of range", where x and y are "within ±200,000,000"
 unfoldable pub rangesGood : Element → Bool
-unfolding lengthGood radiusGood inFrame
-rangesGood e = lengthGood (e .length) && radiusGood (e .kind) (e .length) (natAbs (e .radius)) && inFrame (e .x) (e .y)
+unfolding lengthGood radiusGood shapeOf inFrame
+rangesGood e = lengthGood (e .length) && radiusGood (shapeOf (e .kind)) (wholeLength e) (natAbs (e .radius)) && inFrame (e .x) (e .y)
 
 -- "Direction: c² + s² at most 2^31 from 2^60."
 unfoldable pub isUnit : ℤ → ℤ → Bool

@@ -1,11 +1,13 @@
 -- Document 01, "Position on an element".
 use Prim.Native.Nat.{ℕ, _-_, _*_}
+use mathlib.Core.Bool.{Bool, true, false}
 use lib.IntN.{ℤ, pos, negsuc, negℤ, natAbs, _+ℤ_, _-ℤ_, _*ℤ_}
-use Rattle.model.specs.declared.Kind.{Kind}
-use Rattle.model.specs.declared.Kind.the-variants.{Line, Arc, EntrySpiral, ExitSpiral}
+use Rattle.model.specs.declared.Shape.{Shape}
+use Rattle.model.specs.declared.Shape.the-variants.{Straight, Circular, Clothoid}
 use Rattle.model.specs.declared.Element.{Element}
 use Rattle.model.specs.declared.Point.{Point}
 use Rattle.model.specs.Rounding.{ONE, near}
+use Rattle.model.specs.Kinds.{shapeOf, anchoredFar}
 
 -- ---- the numbers of the series
 
@@ -72,64 +74,91 @@ sine t = near (t *ℤ F sineFactor (squareOf t)) ONE
 
 -- ---- an element in its own frame, whose first axis is the forward direction at the anchor
 
--- "Let l = s, but l = L − s on an exit spiral." With the length L.
-unfoldable pub fromAnchor : Kind → ℕ → ℕ → ℕ
-fromAnchor Line length s = s
-fromAnchor Arc length s = s
-fromAnchor EntrySpiral length s = s
-fromAnchor ExitSpiral length s = length - s
+-- (u, v), or a direction, in the element's own frame
+pub record Local : Type 0 where
+  pub along : ℤ
+  pub aside : ℤ
+
+-- l at s mm from the start of an element of this length: "Let l = s, but l = L − s on an exit spiral.", which is anchored at its far end.
+unfoldable pub fromAnchor : Bool → ℕ → ℕ → ℕ
+fromAnchor false length s = s
+fromAnchor true length s = length - s
+
+-- W, the length that a clothoid takes from its straight end to the radius R: the "L" of "2RL".
+abbrev pub wholeLength : Element → ℕ
+wholeLength e = e .length
+
+-- the fraction numerator / denominator, with a denominator above 0
+pub record Fraction : Type 0 where
+  pub numerator : ℤ
+  pub denominator : ℕ
+
+abbrev pub fraction : ℤ → ℕ → Fraction
+fraction n d = record { numerator = n; denominator = d }
 
 -- n with the sign of the radius: "with the sign moved to the numerator"
 unfoldable pub signedBy : ℤ → ℕ → ℤ
 signedBy (pos r) n = pos n
 signedBy (negsuc r) n = negℤ (pos n)
 
--- "t = near(ONE·s, R) on an arc and near(ONE·l², 2RL) on a spiral"; a line does not turn.
-unfoldable pub angleOf : Kind → ℤ → ℕ → ℕ → ℤ
-unfolding near signedBy
-angleOf Line radius length l = pos 0
-angleOf Arc radius length l = near (signedBy radius (ONE * l)) (natAbs radius)
-angleOf EntrySpiral radius length l = near (signedBy radius (ONE * (l * l))) (2 * natAbs radius * length)
-angleOf ExitSpiral radius length l = near (signedBy radius (ONE * (l * l))) (2 * natAbs radius * length)
+-- φ or τ, by which a curve has turned l mm from its anchor, of the radius and W: "arc, φ = s/R", "spiral, τ = l²/(2RL)"; a line does not turn.
+unfoldable pub turnOf : Shape → ℤ → ℕ → ℕ → Fraction
+unfolding signedBy
+turnOf Straight radius whole l = fraction (pos 0) 1
+turnOf Circular radius whole l = fraction (signedBy radius l) (natAbs radius)
+turnOf Clothoid radius whole l = fraction (signedBy radius (l * l)) (2 * natAbs radius * whole)
 
--- (u, v), or a direction, in the element's own frame
-pub record Local : Type 0 where
-  pub along : ℤ
-  pub aside : ℤ
+-- t, of a turn φ: "t = near(ONE·s, R) on an arc and near(ONE·l², 2RL) on a spiral"
+unfoldable pub angleOf : Fraction → ℤ
+unfolding near
+angleOf φ = near (pos ONE *ℤ φ .numerator) (φ .denominator)
 
--- "line: u = 100s, v = 0"; "arc: .."; "spiral: U = .., V = .. Entry: u = U, v = V. Exit: u = −U, v = V."
-unfoldable pub localOf : Kind → ℕ → ℤ → Local
+-- "line: u = 100s, v = 0"; "arc: .."; "spiral: U = .., V = ..": u and v, but U and V of a clothoid
+unfoldable pub localOf : Shape → ℕ → ℤ → Local
 unfolding seriesAlong seriesAside
-localOf Line l t = record { along = pos (100 * l); aside = pos 0 }
-localOf Arc l t = record { along = seriesAlong arcSeries l t; aside = seriesAside arcSeries l t }
-localOf EntrySpiral l t = record { along = seriesAlong spiralSeries l t; aside = seriesAside spiralSeries l t }
-localOf ExitSpiral l t = record { along = negℤ (seriesAlong spiralSeries l t); aside = seriesAside spiralSeries l t }
+localOf Straight l t = record { along = pos (100 * l); aside = pos 0 }
+localOf Circular l t = record { along = seriesAlong arcSeries l t; aside = seriesAside arcSeries l t }
+localOf Clothoid l t = record { along = seriesAlong spiralSeries l t; aside = seriesAside spiralSeries l t }
 
--- "direction: .., the second negated on an exit spiral"; "line: .. direction (ONE, 0)"
-unfoldable pub directionOf : Kind → ℤ → Local
+-- "line: .. direction (ONE, 0)"; "direction: (F(2; 1, 12), near(t·F(6; 1, 20), ONE))"
+unfoldable pub directionOf : Shape → ℤ → Local
 unfolding cosine sine
-directionOf Line t = record { along = pos ONE; aside = pos 0 }
-directionOf Arc t = record { along = cosine t; aside = sine t }
-directionOf EntrySpiral t = record { along = cosine t; aside = sine t }
-directionOf ExitSpiral t = record { along = cosine t; aside = negℤ (sine t) }
+directionOf Straight t = record { along = pos ONE; aside = pos 0 }
+directionOf Circular t = record { along = cosine t; aside = sine t }
+directionOf Clothoid t = record { along = cosine t; aside = sine t }
 
--- l at s, where "s is the mm from the element's start, 0 to L."
+-- negated on an element that is anchored at its far end
+unfoldable pub facing : Bool → ℤ → ℤ
+facing false z = z
+facing true z = negℤ z
+
+-- l, the turn and t at s, where "s is the mm from the element's start, 0 to L."
 unfoldable pub lengthAt : Element → ℕ → ℕ
-unfolding fromAnchor
-lengthAt e s = fromAnchor (e .kind) (e .length) s
+unfolding fromAnchor anchoredFar
+lengthAt e s = fromAnchor (anchoredFar (e .kind)) (e .length) s
 
--- t, (u, v) and the direction at s mm from an element's start
+unfoldable pub turnAt : Element → ℕ → Fraction
+unfolding turnOf shapeOf lengthAt
+turnAt e s = turnOf (shapeOf (e .kind)) (e .radius) (wholeLength e) (lengthAt e s)
+
 unfoldable pub angleAt : Element → ℕ → ℤ
-unfolding angleOf lengthAt
-angleAt e s = angleOf (e .kind) (e .radius) (e .length) (lengthAt e s)
+unfolding angleOf turnAt
+angleAt e s = angleOf (turnAt e s)
 
+-- u and v at s, but U and V on a spiral
+unfoldable pub unsignedAt : Element → ℕ → Local
+unfolding localOf shapeOf lengthAt angleAt
+unsignedAt e s = localOf (shapeOf (e .kind)) (lengthAt e s) (angleAt e s)
+
+-- "Entry: u = U, v = V. Exit: u = −U, v = V."
 unfoldable pub localAt : Element → ℕ → Local
-unfolding localOf lengthAt angleAt
-localAt e s = localOf (e .kind) (lengthAt e s) (angleAt e s)
+unfolding facing anchoredFar unsignedAt
+localAt e s = let w = unsignedAt e s in record { along = facing (anchoredFar (e .kind)) (w .along); aside = w .aside }
 
+-- "direction: .., the second negated on an exit spiral"
 unfoldable pub directionAt : Element → ℕ → Local
-unfolding directionOf angleAt
-directionAt e s = directionOf (e .kind) (angleAt e s)
+unfolding facing anchoredFar directionOf shapeOf angleAt
+directionAt e s = let w = directionOf (shapeOf (e .kind)) (angleAt e s) in record { along = w .along; aside = facing (anchoredFar (e .kind)) (w .aside) }
 
 -- ---- in the plane
 

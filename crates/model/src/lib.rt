@@ -1,7 +1,7 @@
 // The types of the crest library, what a kind byte says, and document 01's numbers under their names: layout, limits, refusals,
 // units. Every definition of document 01 over them is in specs/.
 ghost use mathlib.Core.Path.{_≡_};
-ghost use Rattle.model.specs.Kinds.{decide};
+ghost use Rattle.model.specs.Kinds.{decide, shapeOf, anchoredFar};
 
 pub mod layout;
 pub mod limits;
@@ -14,6 +14,37 @@ pub enum Kind {
     Arc,
     EntrySpiral,
     ExitSpiral,
+}
+
+// The shape of an element's curve.
+pub enum Shape {
+    Straight,
+    Circular,
+    Clothoid,
+}
+
+// The shape of a kind: both spirals are clothoids.
+pub fn shape_of(kind: Kind) -> Shape
+    ensures { λ r. ⌜ r ≡ shapeOf kind ⌝ }
+{
+    match kind {
+        Kind::Line => Shape::Straight,
+        Kind::Arc => Shape::Circular,
+        Kind::EntrySpiral => Shape::Clothoid,
+        Kind::ExitSpiral => Shape::Clothoid,
+    }
+}
+
+// Whether the anchor of a kind is its far end.
+pub fn anchored_far(kind: Kind) -> bool
+    ensures { λ r. ⌜ r ≡ anchoredFar kind ⌝ }
+{
+    match kind {
+        Kind::Line => false,
+        Kind::Arc => false,
+        Kind::EntrySpiral => false,
+        Kind::ExitSpiral => true,
+    }
 }
 
 // What a kind byte says.

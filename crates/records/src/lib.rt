@@ -5,9 +5,11 @@ use model::Kind;
 use model::KindByte;
 use model::Outcome;
 use model::Refusal;
+use model::Shape;
 use model::layout;
 use model::limits;
 use model::refusals;
+use model::shape_of;
 ghost use mathlib.Core.List.{[]};
 ghost use mathlib.Core.Path.{_≡_};
 ghost use Prim.Native.Nat.{_+_, _≤_};
@@ -76,16 +78,15 @@ fn between(low: u64, x: u64, high: u64) -> bool
     x <= high
 }
 
-// Whether a radius of magnitude r fits an element of this kind and length.
-fn radius_good(kind: Kind, l: u64, r: u64) -> bool
+// Whether a radius of magnitude r fits an element of this shape and length.
+fn radius_good(shape: Shape, l: u64, r: u64) -> bool
     requires { ⌜ l ≤ longestElement ⌝ }
-    ensures { λ b. ⌜ b ≡ radiusGood kind l r ⌝ }
+    ensures { λ b. ⌜ b ≡ radiusGood shape l r ⌝ }
 {
-    match kind {
-        Kind::Line => r == 0,
-        Kind::Arc => between(2 * l, r, limits::WIDEST),
-        Kind::EntrySpiral => between(l, r, limits::WIDEST),
-        Kind::ExitSpiral => between(l, r, limits::WIDEST),
+    match shape {
+        Shape::Straight => r == 0,
+        Shape::Circular => between(2 * l, r, limits::WIDEST),
+        Shape::Clothoid => between(l, r, limits::WIDEST),
     }
 }
 
@@ -97,7 +98,7 @@ fn ranges_good(e: Element) -> bool
         return false;
     }
     let kind = e.kind;
-    if !radius_good(kind, e.length, magnitude(e.radius)) {
+    if !radius_good(shape_of(kind), e.length, magnitude(e.radius)) {
         return false;
     }
     in_frame(e.x, e.y)

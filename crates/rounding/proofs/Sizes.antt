@@ -1,6 +1,6 @@
 -- How far near(n, d) is from n/d, and how large it is: what follows from its three laws, that its error is at most a half, that it is monotone, and that it is exact on
 -- multiples of d.
-use mathlib.Core.Path.{sym, ap, subst}
+use mathlib.Core.Path.{_≡_, sym, _∙_, ap, subst}
 use Prim.Native.Nat.{ℕ, _+_, _*_, _≤_, _<_}
 use native.Mathlib.Omega.{arith}
 use native.Mathlib.Nat.{mul-zero, mul-le-mul, le-trans, le-of-eq}
@@ -21,6 +21,9 @@ module _ {d : ℕ} (h : 0 < d) where
 
   pub ≤-near : {n k : ℤ} → (pos d *ℤ k) ≤ℤ n → k ≤ℤ near n d
   ≤-near {n} {k} l = subst (λ x. x ≤ℤ near n d) (near-multiple h k) (near-mono h l)
+
+  pub near-0 : near (pos 0) d ≡ pos 0
+  near-0 = ap (λ n. near n d) (sym (ap pos (mul-zero d))) ∙ near-multiple h (pos 0)
 
   pub 0≤-near : {n : ℤ} → pos 0 ≤ℤ n → pos 0 ≤ℤ near n d
   0≤-near {n} l = ≤-near (subst (λ x. x ≤ℤ n) (sym (ap pos (mul-zero d))) l)

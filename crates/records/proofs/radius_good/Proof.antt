@@ -1,4 +1,4 @@
--- `records::radius_good` meets its contract: a case for each kind.
+-- `records::radius_good` meets its contract: a case for each shape.
 use borrow.Author.Needs.{needs}
 use Rattle.model.specs.Acceptance.{radiusGood}
 use Rattle.records.proofs.radius_good.Statement.{statement}
@@ -22,12 +22,6 @@ enum-told-3 c = search needs
 between-requires-2 : tie.Need-between-requires-2
 between-requires-2 c κs = search needs
 
-enum-told-4 : tie.Need-enum-told-4
-enum-told-4 c = search needs
-
-between-requires-3 : tie.Need-between-requires-3
-between-requires-3 c κs = search needs
-
 returns : tie.Need-returns
 unfolding radiusGood
 returns c = rw (c .enum-told .given .1)
@@ -40,10 +34,6 @@ returns-3 : tie.Need-returns-3
 unfolding radiusGood
 returns-3 c = rw (c .before .enum-told3 .given .1) (c .between2 .ensures)
 
-returns-4 : tie.Need-returns-4
-unfolding radiusGood
-returns-4 c = rw (c .before .enum-told4 .given .1) (c .between3 .ensures)
-
 pub radius-good-spec : {M : Type 1} → statement M
 radius-good-spec =
     tie.close
@@ -54,9 +44,6 @@ radius-good-spec =
     between-requires
     enum-told-3
     between-requires-2
-    enum-told-4
-    between-requires-3
     returns
     returns-2
-    returns-3
-    returns-4)
+    returns-3)

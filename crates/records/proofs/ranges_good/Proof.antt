@@ -7,7 +7,8 @@ use lib.Dec.{leb}
 use lib.IntN.{natAbs}
 use mir.Facts.{toZ-ofZ}
 use mir.Syntax.{w64}
-use Rattle.model.specs.Acceptance.{lengthGood, radiusGood, inFrame, rangesGood}
+use Rattle.model.specs.Kinds.{shapeOf}
+use Rattle.model.specs.Acceptance.{longestElement, lengthGood, radiusGood, inFrame, rangesGood}
 use Rattle.records.proofs.ranges_good.Statement.{statement}
 use Rattle.records.proofs.ranges_good.Tie as tie
 
@@ -15,12 +16,12 @@ length-good : (c : tie.Else1) → lengthGood (c .before .before .args .e .length
 unfolding lengthGood
 length-good c = sym (c .before .between .ensures) ∙ not-false _ (c .if1 .left)
 
-radius-tested : (c : tie.After-radius-good) → let e = c .before .before .before .before .before .args .e in radiusGood (e .kind) (e .length) (natAbs (e .radius)) ≡ c .radius-good .result
+radius-tested : (c : tie.After-radius-good) → let e = c .before .before .before .before .before .before .args .e in radiusGood (shapeOf (e .kind)) (e .length) (natAbs (e .radius)) ≡ c .radius-good .result
 radius-tested c =
-    let e = c .before .before .before .before .before .args .e in
+    let e = c .before .before .before .before .before .before .args .e in
     let back = toZ-ofZ {w = w64} {z = e .radius} (record { sfits = c .before .before .struct-told .given .1 .1 .1 .1 .1 .1 .0 .1 }) in
     let size : c .before .magnitude .result ≡ natAbs (e .radius) = c .before .magnitude .ensures ∙ ap natAbs back in
-    rw (← size) (sym (c .radius-good .ensures))
+    rw (← size, ← c .before .before .before .shape-of .ensures) (sym (c .radius-good .ensures))
 
 between-requires : tie.Need-between-requires
 between-requires c κs = search needs
@@ -29,19 +30,22 @@ returns : tie.Need-returns
 unfolding rangesGood lengthGood
 returns c = rw (← c .before .between .ensures, not-true (c .before .between .result) (c .if1 .taken))
 
+shape-of-requires : tie.Need-shape-of-requires
+shape-of-requires c κs = search needs
+
 magnitude-requires : tie.Need-magnitude-requires
 magnitude-requires c κs = search needs
 
 radius-good-requires : tie.Need-radius-good-requires
 unfolding lengthGood
 radius-good-requires c κs =
-    let l = c .before .before .before .before .args .e .length in
-    leb-true l 500000 (and-eq-true-iff (leb 1 l) (leb l 500000) .0 (length-good (c .before .before)) .1)
+    let l = c .before .before .before .before .before .args .e .length in
+    leb-true l longestElement (and-eq-true-iff (leb 1 l) (leb l longestElement) .0 (length-good (c .before .before .before)) .1)
 
 returns-2 : tie.Need-returns-2
 unfolding rangesGood
 returns-2 c =
-    let d = c .before .before .before .before in
+    let d = c .before .before .before .before .before in
     rw (length-good d, radius-tested (c .before), not-true (c .before .radius-good .result) (c .if2 .taken))
 
 in-frame-requires : tie.Need-in-frame-requires
@@ -51,7 +55,7 @@ returns-3 : tie.Need-returns-3
 unfolding rangesGood
 returns-3 c =
     let e = c .before .before .before in
-    let d = e .before .before .before .before in
+    let d = e .before .before .before .before .before in
     let a = d .before .before .args .e in
     let told = c .before .struct-told3 .given in
     let x = toZ-ofZ {w = w64} {z = a .x} (record { sfits = told .1 .1 .0 .1 }) in
@@ -64,6 +68,7 @@ ranges-good-spec =
     (tie.spec
     between-requires
     returns
+    shape-of-requires
     magnitude-requires
     radius-good-requires
     returns-2

@@ -1,5 +1,4 @@
 -- `elements::series::curve` meets its contract: u and v are made of the square and the factors as the definitions make them.
-use mathlib.Core.Path.{refl}
 use borrow.Author.Needs.{needs}
 use Rattle.elements.specs.Reached.{seriesOf}
 use Rattle.elements.proofs.Steps.{series-at}
@@ -26,7 +25,7 @@ returns c sign h e =
     let second = c .before in
     let first = second .before .before in
     let square = first .before .before .before in
-    series-at sign _ _ (square .square-of .ensures .0) (seriesOf (square .before .args .k)) _ _ _ _ (first .factor-of .ensures .0) (second .factor-of2 .ensures .0) refl (second .before .along .ensures) (c .aside .ensures sign h e)
+    series-at sign _ _ (square .square-of .ensures .0) (seriesOf (square .before .args .k)) _ _ _ _ _ (first .factor-of .ensures .0) (second .factor-of2 .ensures .0) (second .before .along .ensures) (c .aside .ensures sign h e)
 
 pub curve-spec : {M : Type 1} → statement M
 curve-spec =

@@ -3,7 +3,7 @@ use Prim.Native.Nat.{_*_, _^_, _≤_}
 use native.Mathlib.Omega.{arith}
 use native.Mathlib.Nat.{mul-le-mul}
 use borrow.Author.Needs.{needs}
-use Rattle.elements.proofs.Steps.{turn-at}
+use Rattle.elements.proofs.Steps.{direction-at}
 use Rattle.elements.proofs.series.direction.Statement.{statement}
 use Rattle.elements.proofs.series.direction.Tie as tie
 
@@ -29,7 +29,7 @@ returns : tie.Need-returns
 returns c sign h e =
     let second = c .before in
     let first = second .before in
-    turn-at sign _ _ (first .before .square-of .ensures .0) _ _ (second .factor-of2 .ensures .0) (first .factor-of .ensures .0) (c .near-even .ensures sign h e)
+    direction-at sign _ _ (first .before .square-of .ensures .0) _ _ (second .factor-of2 .ensures .0) (first .factor-of .ensures .0) (c .near-even .ensures sign h e)
 
 pub direction-spec : {M : Type 1} → statement M
 direction-spec =

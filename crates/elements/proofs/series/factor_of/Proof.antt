@@ -5,8 +5,8 @@ use native.Mathlib.Nat.{mul-le-mul}
 use borrow.Author.Needs.{needs}
 use Rattle.integers.specs.Signs.{withSign}
 use Rattle.model.specs.Rounding.{ONE}
-use Rattle.rounding.proofs.Quotients.{lowered-0, near-at-most}
 use Rattle.elements.specs.Reached.{factorOf}
+use Rattle.rounding.proofs.Quotients.{lowered-0, near-at-most}
 use Rattle.elements.proofs.Steps.{factor-step}
 use Rattle.elements.proofs.series.factor_of.Statement.{statement}
 use Rattle.elements.proofs.series.factor_of.Tie as tie

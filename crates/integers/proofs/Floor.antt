@@ -1,18 +1,17 @@
--- Division that rounds down: floorDiv n d is the one q with d · q ≤ n < d · (q + 1), from which its laws follow. The machine's shift right is that quotient,
--- and so is the machine's division, less 1 where the remainder is negative.
+-- Division that rounds down: floorDiv n d is the one q with d · q ≤ n < d · (q + 1), from which its laws follow. The machine's shift right is that quotient.
 use mathlib.Core.Path.{_≡_, refl, sym, _∙_, ap, subst}
 use mathlib.Core.Logic.{⊎-elim}
 use Prim.Native.Nat.{ℕ, suc, _+_, _*_, _/_, _%_, _<_, _≤_}
 use native.Mathlib.Omega.{arith}
-use native.Mathlib.Nat.{add-mul, mul-one, mul-suc, mul-assoc, mul-pos, div-add-mod, mul-add-div, mod-lt, div-le-self}
-use lib.IntN.{ℤ, pos, negsuc, negℤ, _+ℤ_, _-ℤ_, _*ℤ_, negℤ-+ℤ, -ℤ-+ℤ-cancel}
-use lib.Signed.{_≤ℤ_, _<ℤ_, clashℤ, shrZ, quotZ, remZ, mag, mag-shr}
+use native.Mathlib.Nat.{add-mul, mul-one, mul-suc, mul-assoc, mul-pos, div-add-mod, mul-add-div, mod-lt}
+use lib.IntN.{ℤ, pos, negsuc, _+ℤ_, _*ℤ_}
+use lib.Signed.{_≤ℤ_, _<ℤ_, clashℤ, shrZ, mag-shr}
 use mir.Syntax.{Width}
 use mir.Val.{SFits, toZ, ofZ}
 use mir.ValLaws.{toZ-ofZ, sfits-le}
 use Rattle.integers.specs.Floor.{floorDiv, IsFloor}
-use Rattle.integers.proofs.Ring.{*ℤ-add, *ℤ-neg, *ℤ-assoc}
-use Rattle.integers.proofs.Order.{order, sum, negation, parts, ≤ℤ-trans, ≤ℤ-<ℤ-trans, ≤ℤ-total, ≤ℤ-mul-left, 0≤-pos, pos-<}
+use Rattle.integers.proofs.Ring.{*ℤ-add, *ℤ-assoc}
+use Rattle.integers.proofs.Order.{order, sum, negation, ≤ℤ-trans, ≤ℤ-<ℤ-trans, ≤ℤ-total, ≤ℤ-mul-left, 0≤-pos, pos-<}
 
 -- ---- the bounds
 
@@ -93,44 +92,6 @@ long-division m b h {d} l =
     sym (mul-add-div l (m / d * b) (m % d * b + h))
     ∙ ap (λ x. x / d) (omega (arith, sym (mul-assoc d (m / d) b), add-mul (d * (m / d)) (m % d) b, ap (λ x. x * b) (div-add-mod m d)))
 
--- ---- the machine's division, which rounds toward zero
-
-pub quot-rem : (n : ℤ) (d : ℕ) → pos d *ℤ quotZ n (pos d) +ℤ remZ n (pos d) ≡ n
-quot-rem (pos n) d = ap pos (div-add-mod n d)
-quot-rem (negsuc n) d =
-    let q : ℕ = suc n / d in
-    let r : ℕ = suc n % d in
-    ap (λ x. x +ℤ negℤ (pos r)) (*ℤ-neg (pos d) (pos q)) ∙ sym (negℤ-+ℤ (pos (d * q)) (pos r)) ∙ ap (λ x. negℤ (pos x)) (div-add-mod (suc n) d)
-
-pub rem-low : (n : ℤ) {d : ℕ} → 0 < d → negℤ (pos d) <ℤ remZ n (pos d)
-rem-low (pos n) {d} h = omega (order, negation (pos d))
-rem-low (negsuc n) {d} h = omega (order, mod-lt (suc n) h, negation (pos d), negation (pos (suc n % d)))
-
-pub rem-high : (n : ℤ) {d : ℕ} → 0 < d → remZ n (pos d) <ℤ pos d
-rem-high (pos n) h = pos-< (mod-lt n h)
-rem-high (negsuc n) {d} h = omega (order, negation (pos (suc n % d)))
-
-module _ (n : ℤ) {d : ℕ} (h : 0 < d) where
-  pub floor-quot : pos 0 ≤ℤ remZ n (pos d) → floorDiv n d ≡ quotZ n (pos d)
-  floor-quot l = sym (floor-unique h (with-remainder (quot-rem n d) l (rem-high n h)))
-
-  pub floor-quot-less : remZ n (pos d) <ℤ pos 0 → floorDiv n d ≡ quotZ n (pos d) -ℤ pos 1
-  floor-quot-less l =
-      let q : ℤ = quotZ n (pos d) in
-      let r : ℤ = remZ n (pos d) in
-      let e : pos d *ℤ q ≡ pos d *ℤ (q -ℤ pos 1) +ℤ pos d = ap (λ x. pos d *ℤ x) (sym (-ℤ-+ℤ-cancel q (pos 1))) ∙ next-multiple d (q -ℤ pos 1) in
-      let s = sum (pos d *ℤ q) r in
-      let t = sum (pos d *ℤ (q -ℤ pos 1)) (pos d) in
-      sym
-      (floor-unique h
-      (from-bounds
-      (omega (order, quot-rem n d, e, s, t, rem-low n h, negation (pos d)))
-      (omega (order, quot-rem n d, e, s, t))))
-
-pub mag-quot : (n : ℤ) (d : ℕ) → mag (quotZ n (pos d)) ≤ mag n
-mag-quot (pos n) d = div-le-self n d
-mag-quot (negsuc n) d = omega (arith, parts (negℤ (pos (suc n / d))), negation (pos (suc n / d)), div-le-self (suc n) d)
-
 -- ---- the machine's shift
 
 -- The machine's shift right is division by a power of two that rounds down.
@@ -138,9 +99,6 @@ pub shift-floor : (n : ℤ) (d : ℕ) → shrZ n d ≡ floorDiv n d
 unfolding floorDiv
 shift-floor (pos n) d = refl
 shift-floor (negsuc n) d = refl
-
-pub mag-floor : (n : ℤ) (d : ℕ) → mag (floorDiv n d) ≤ mag n
-mag-floor n d = rw (← shift-floor) (mag-shr n d)
 
 -- what a shift of an argument leaves
 pub shifted : (w : Width) (n : ℤ) (d : ℕ) → SFits w n → toZ w (ofZ w (shrZ (toZ w (ofZ w n)) d)) ≡ floorDiv n d

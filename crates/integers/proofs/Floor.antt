@@ -1,7 +1,7 @@
 -- Division that rounds down: floorDiv n d is the one q with d · q ≤ n < d · (q + 1), from which its laws follow. The machine's shift right is that quotient.
 use mathlib.Core.Path.{_≡_, refl, sym, _∙_, ap, subst}
 use mathlib.Core.Logic.{⊎-elim}
-use Prim.Native.Nat.{ℕ, suc, _+_, _*_, _/_, _%_, _<_, _≤_}
+use Prim.Native.Nat.{ℕ, suc, _+_, _*_, _/_, _%_, _<_}
 use native.Mathlib.Omega.{arith}
 use native.Mathlib.Nat.{add-mul, mul-one, mul-suc, mul-assoc, mul-pos, div-add-mod, mul-add-div, mod-lt}
 use lib.IntN.{ℤ, pos, negsuc, _+ℤ_, _*ℤ_}

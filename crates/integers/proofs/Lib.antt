@@ -4,7 +4,6 @@ pub mod Order
 pub mod Abs
 pub mod Identity
 pub mod Written
-pub mod Linear
 pub mod Ranges
 pub mod Machine
 pub mod Floor
@@ -12,4 +11,3 @@ pub mod Signed
 pub mod Held
 pub mod Root
 pub mod Plane
-mod Shown

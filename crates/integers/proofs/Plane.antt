@@ -9,10 +9,9 @@ use native.Mathlib.Nat.{mul-le-mul, le-trans, le-of-eq, le-of-lt}
 use lib.IntN.{ℤ, pos, negℤ, natAbs, _+ℤ_, _-ℤ_, _*ℤ_, -ℤ-+ℤ-cancel}
 use lib.Signed.{_≤ℤ_}
 use Rattle.integers.specs.Plane.{squared}
-use Rattle.integers.proofs.Order.{order, parts, ≤ℤ-by, ≤-pos, 0≤-square}
+use Rattle.integers.proofs.Order.{order, sum, multiple, parts, ≤ℤ-by, ≤-pos, 0≤-square}
 use Rattle.integers.proofs.Abs.{square-natAbs, square-≤, ≤-square, natAbs-neg}
 use Rattle.integers.proofs.Written.{writing, identity, identityℕ}
-use Rattle.integers.proofs.Linear.{linear}
 
 pub squared-is : (x y : ℤ) → pos (squared x y) ≡ x *ℤ x +ℤ y *ℤ y
 unfolding squared
@@ -63,7 +62,7 @@ dot-≤ gx gy fx fy n m hg hf = ≤-square (le-trans lagrange (le-trans (mul-le-
 
 -- |g| < n and |f| ≤ m give |g + f| < n + m
 pub sum-below : (gx gy fx fy : ℤ) (n m : ℕ) → squared gx gy < n * n → squared fx fy ≤ m * m → squared (gx +ℤ fx) (gy +ℤ fy) < (n + m) * (n + m)
-sum-below gx gy fx fy n m hg hf = omega (order, whole, dot, expanded, linear {ρ = pos g ∷ d ∷ pos f ∷ []} {a = pos g +ℤ pos 2 *ℤ d +ℤ pos f} (search writing depth 20), parts d)
+sum-below gx gy fx fy n m hg hf = omega (order, whole, dot, expanded, sum (pos g) (pos 2 *ℤ d), sum (pos g +ℤ pos 2 *ℤ d) (pos f), multiple 2 d, parts d)
   where
     g : ℕ
     g = squared gx gy

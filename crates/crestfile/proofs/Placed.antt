@@ -10,12 +10,11 @@ use Rattle.model.specs.declared.Refusal.{Refusal}
 use Rattle.model.specs.declared.Outcome.{Outcome}
 use Rattle.model.specs.declared.Outcome.the-variants.{Done, Refused}
 use Rattle.model.specs.Refusals.{byteCount, Rule, rule₀, refusal, orRefused, verdict, forEach}
-use Rattle.model.specs.Records.{mostRecords, recordBytes, blockCount, countOf, recordOf}
-use Rattle.model.specs.Acceptance.{elementAt, lengthFits, recordRules, joinRules, eachRecord, eachJoin, recordsRules, sumRules, fieldRules, blocksRules, crestRules}
+use Rattle.model.specs.Records.{mostRecords, blockCount, countOf, recordOf}
+use Rattle.model.specs.Acceptance.{elementAt, lengthFits, recordRules, joinRules, eachRecord, eachJoin, recordsRules, sumRules, fieldRules, blocksRules}
 use Rattle.model.proofs.Verdict.{verdict-after, refused-before, done→all}
 use Rattle.crestfile.proofs.ForEach.{holds-one}
 use Rattle.crestfile.proofs.Crest.{fits→sized}
-use Rattle.crestfile.proofs.Count.{blocks→counted}
 
 -- ---- orders of refusals
 

@@ -82,10 +82,6 @@ abs-machine Γ a {k} d t =
     let g = and-yes (d .good) (leb (bound (Γ .bounds) (d .expr)) k) t in
     abs-by {ρ = Γ .vars} (Γ .bounds) a (Γ .within) (record { expr = d .expr; means = d .means (g .0) }) (g .1)
 
--- a term without its casts
-pub plain : (Γ : Env) {a : ℤ} (d : Machine Γ a) → T (d .good) → a ≡ eval (Γ .vars) (d .expr)
-plain Γ d t = sym (d .means t)
-
 -- ---- tests of two signed locals, as facts of the numbers
 
 pub test-lt : {w : Width} {x y : ℤ} → SFits w x → SFits w y → ltZ (toZ w (ofZ w x)) (toZ w (ofZ w y)) ≡ true → x <ℤ y

@@ -10,7 +10,7 @@ use native.Mathlib.Nat.{mul-zero}
 use lib.Dec.{T, ltb, leb→le, le→leb, ltb→lt, lt→ltb, nltb→le}
 use lib.IntN.{ℤ, pos, negsuc, negℤ, natAbs, subℕ, _+ℤ_, _-ℤ_, _*ℤ_}
 use lib.Signed.{_≤ℤ_, _<ℤ_, leZ, ltZ, mag}
-use Rattle.integers.proofs.Ring.{sub-*ℤ, *ℤ-sub}
+use Rattle.integers.proofs.Ring.{*ℤ-sub}
 
 abbrev pub posPart : ℤ → ℕ
 posPart (pos k) = k
@@ -101,9 +101,6 @@ pub ≤ℤ-trans : {a b c : ℤ} → a ≤ℤ b → b ≤ℤ c → a ≤ℤ c
 pub ≤ℤ-<ℤ-trans : {a b c : ℤ} → a ≤ℤ b → b <ℤ c → a <ℤ c
 ≤ℤ-<ℤ-trans h k = omega order
 
-pub <ℤ-trans : {a b c : ℤ} → a <ℤ b → b <ℤ c → a <ℤ c
-<ℤ-trans h k = omega order
-
 pub ≤ℤ-antisym : {a b : ℤ} → a ≤ℤ b → b ≤ℤ a → a ≡ b
 ≤ℤ-antisym h k = omega order
 
@@ -139,9 +136,6 @@ pub 0≤-sub : {a b : ℤ} → a ≤ℤ b → pos 0 ≤ℤ (b -ℤ a)
 pub sub-0≤ : {a b : ℤ} → pos 0 ≤ℤ (b -ℤ a) → a ≤ℤ b
 sub-0≤ {a} {b} h = omega (order, difference b a)
 
-pub ≤ℤ-add : {a b c d : ℤ} → a ≤ℤ b → c ≤ℤ d → (a +ℤ c) ≤ℤ (b +ℤ d)
-≤ℤ-add {a} {b} {c} {d} h k = omega (order, sum a c, sum b d)
-
 pub 0≤-mul : {a b : ℤ} → pos 0 ≤ℤ a → pos 0 ≤ℤ b → pos 0 ≤ℤ (a *ℤ b)
 0≤-mul {a = pos a} {b = pos b} h k = 0≤-pos (a * b)
 0≤-mul {a = pos a} {b = negsuc b} h k = absurd (k .le)
@@ -153,13 +147,6 @@ pub 0≤-square : (a : ℤ) → pos 0 ≤ℤ (a *ℤ a)
 
 pub ≤ℤ-mul-left : {a b : ℤ} (k : ℤ) → pos 0 ≤ℤ k → a ≤ℤ b → (k *ℤ a) ≤ℤ (k *ℤ b)
 ≤ℤ-mul-left {a} {b} k z h = sub-0≤ (subst (λ x. pos 0 ≤ℤ x) (*ℤ-sub k b a) (0≤-mul z (0≤-sub h)))
-
-pub ≤ℤ-mul-right : {a b : ℤ} (k : ℤ) → pos 0 ≤ℤ k → a ≤ℤ b → (a *ℤ k) ≤ℤ (b *ℤ k)
-≤ℤ-mul-right {a} {b} k z h = sub-0≤ (subst (λ x. pos 0 ≤ℤ x) (sub-*ℤ b a k) (0≤-mul (0≤-sub h) z))
-
--- of numbers that are not negative
-pub ≤ℤ-mul : {a b c d : ℤ} → pos 0 ≤ℤ a → pos 0 ≤ℤ d → a ≤ℤ b → c ≤ℤ d → (a *ℤ c) ≤ℤ (b *ℤ d)
-≤ℤ-mul {a} {b} {c} {d} za zd h k = ≤ℤ-trans (≤ℤ-mul-left a za k) (≤ℤ-mul-right d zd h)
 
 -- A certificate: b − a is a number k that is known not to be negative.
 pub ≤ℤ-by : {a b k : ℤ} → pos 0 ≤ℤ k → b -ℤ a ≡ k → a ≤ℤ b

@@ -49,9 +49,6 @@ neg-*ℤ a b = neg-unique (negℤ a *ℤ b) (a *ℤ b) (sym (add-*ℤ (negℤ a)
 pub *ℤ-neg : (a b : ℤ) → a *ℤ negℤ b ≡ negℤ (a *ℤ b)
 *ℤ-neg a b = *ℤ-comm a (negℤ b) ∙ neg-*ℤ b a ∙ ap negℤ (*ℤ-comm b a)
 
-pub sub-*ℤ : (a b k : ℤ) → (a -ℤ b) *ℤ k ≡ a *ℤ k -ℤ b *ℤ k
-sub-*ℤ a b k = add-*ℤ a (negℤ b) k ∙ ap (λ x. a *ℤ k +ℤ x) (neg-*ℤ b k)
-
 pub *ℤ-sub : (k a b : ℤ) → k *ℤ (a -ℤ b) ≡ k *ℤ a -ℤ k *ℤ b
 *ℤ-sub k a b = *ℤ-add k a (negℤ b) ∙ ap (λ x. k *ℤ a +ℤ x) (*ℤ-neg k b)
 
@@ -63,9 +60,6 @@ pub *ℤ-assoc : (a b c : ℤ) → (a *ℤ b) *ℤ c ≡ a *ℤ (b *ℤ c)
     (λ a h. simp (sucℤ-*ℤ, add-*ℤ, h))
     (λ a h. simp (predℤ-*ℤ, add-*ℤ, neg-*ℤ, h))
     a
-
-pub *ℤ-left-comm : (a b c : ℤ) → a *ℤ (b *ℤ c) ≡ b *ℤ (a *ℤ c)
-*ℤ-left-comm a b c = sym (*ℤ-assoc a b c) ∙ ap (λ x. x *ℤ c) (*ℤ-comm a b) ∙ *ℤ-assoc b a c
 
 pub one-*ℤ : (a : ℤ) → pos 1 *ℤ a ≡ a
 unfolding one

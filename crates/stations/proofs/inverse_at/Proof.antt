@@ -2,7 +2,7 @@
 use mathlib.Core.List.{List}
 use mathlib.Core.Path.{_≡_, ap, ap₂, _∙_}
 use native.Mathlib.Omega.{arith}
-use Prim.Native.Nat.{_≤_, _<_, _^_}
+use Prim.Native.Nat.{_+_, _≤_, _<_, _^_}
 use borrow.Author.Needs.{needs}
 use lib.IntN.{ℤ, natAbs, _+ℤ_, _-ℤ_, _*ℤ_}
 use Rattle.integers.proofs.Abs.{natAbs-+, natAbs--}
@@ -14,7 +14,7 @@ use Rattle.model.specs.Stations.{positionAt, tangentAt}
 use Rattle.model.specs.Answers.{widestOffset, inverseAt}
 use Rattle.elements.specs.declared.Placement.{Placement}
 use Rattle.elements.specs.Reached.{placementOf}
-use Rattle.elements.specs.Extent.{Placeable}
+use Rattle.elements.specs.Extent.{widestPosition, Placeable}
 use Rattle.sources.specs.Sources.{elementsLent}
 use Rattle.stations.proofs.StationExtent.{station-placeable, near-aside-within}
 use Rattle.stations.proofs.StationHeld.{Computed, computed}
@@ -43,8 +43,15 @@ module _ (c : tie.Start) where
       omega (arith, ap natAbs (held-as e (omega arith)), h),
     )
 
-    moved : {r : ℤ} → r ≡ near (held (c .args .w) *ℤ held u) ONE → r ≡ near (c .args .w *ℤ v) ONE
-    moved q = q ∙ ap (λ (z : ℤ). near z ONE) (ap₂ _*ℤ_ (held-small (c .args .w) (omega (arith, c .pre .1 .1))) (held-as e (omega (arith, h))))
+    -- a coordinate with that offset
+    beside : (f : ℤ → ℤ → ℤ) → ((a b : ℤ) → natAbs (f a b) ≤ natAbs a + natAbs b) → {x y r : ℤ} → x ≡ y → natAbs y ≤ widestPosition → r ≡ near (held (c .args .w) *ℤ held u) ONE → Computed f y (near (c .args .w *ℤ v) ONE) x r
+    beside f most {y = y} i b q =
+        let k = near-aside-within (c .args .w) v (c .pre .1 .1) h in
+        computed f i
+        (q ∙ ap (λ (z : ℤ). near z ONE) (ap₂ _*ℤ_ (held-small (c .args .w) (omega (arith, c .pre .1 .1))) (held-as e (omega (arith, h)))))
+        (omega (arith, b))
+        (omega (arith, k))
+        (omega (arith, most y (near (c .args .w *ℤ v) ONE), b, k))
 
 placed-at-requires : tie.Need-placed-at-requires
 placed-at-requires c κs = search needs
@@ -71,12 +78,7 @@ module _ (c : tie.After-aside) where
 
   -- X less the offset along Ty
   less : let s = start o in Computed _-ℤ_ (p s .x) (near (s .args .w *ℤ t s .y) ONE) (o .placed-at .result .x) (c .aside .result)
-  less =
-      let s = start o in
-      let b = bounds s in
-      let m = near (s .args .w *ℤ t s .y) ONE in
-      let k = near-aside-within (s .args .w) (t s .y) (s .pre .1 .1) (b .ty) in
-      computed _-ℤ_ (is o (λ (q : Placement). q .x)) (moved s (is-ty o) (b .ty) (c .aside .ensures)) (omega (arith, b .x)) (omega (arith, k)) (omega (arith, natAbs-- (p s .x) m, b .x, k))
+  less = let s = start o in beside s (is-ty o) (bounds s .ty) _-ℤ_ natAbs-- (is o (λ (q : Placement). q .x)) (bounds s .x) (c .aside .ensures)
 
 aside-requires-2 : tie.Need-aside-requires-2
 aside-requires-2 c κs =
@@ -88,10 +90,7 @@ more : (c : tie.After-aside2) → let x = o (c .before .before) in let s = start
 more c =
     let x = o (c .before .before) in
     let s = start x in
-    let b = bounds s in
-    let m = near (s .args .w *ℤ t s .x) ONE in
-    let k = near-aside-within (s .args .w) (t s .x) (s .pre .1 .1) (b .tx) in
-    computed _+ℤ_ (is x (λ (q : Placement). q .y)) (moved s (is-tx x) (b .tx) (c .aside2 .ensures)) (omega (arith, b .y)) (omega (arith, k)) (omega (arith, natAbs-+ (p s .y) m, b .y, k))
+    beside s (is-tx x) (bounds s .tx) _+ℤ_ natAbs-+ (is x (λ (q : Placement). q .y)) (bounds s .y) (c .aside2 .ensures)
 
 sub-t9 : tie.Need-sub-t9
 sub-t9 c = less (c .before .before .before .before) .fits

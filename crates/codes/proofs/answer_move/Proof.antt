@@ -1,16 +1,14 @@
 -- `codes::answer_move` meets its contract, case by case.
-use mathlib.Core.Path.{sym, ap, ap₂, _∙_, subst}
+use mathlib.Core.Path.{refl, sym, ap, _∙_, subst}
 use native.Mathlib.Omega.{arith}
-use lib.IntN.{ℤ}
-use mir.Syntax.{w64}
-use mir.ValLaws.{toZ-ofZ}
 use denote.Ref.{now}
 use Rattle.model.specs.declared.Move.{Move}
 use Rattle.model.specs.Records.{putAll}
 use Rattle.model.specs.Answers.{code, paperOfMove}
 use Rattle.model.specs.Calls.{forwardAt, moveBytes}
 use Rattle.run.proofs.Narrow.{narrow-fits}
-use Rattle.codes.specs.Codes.{Movable, putTwo}
+use Rattle.codes.specs.Codes.{Movable}
+use Rattle.codes.proofs.Widths.{then-two}
 use borrow.Author.Needs.{needs}
 use Rattle.codes.proofs.answer_move.Statement.{statement}
 use Rattle.codes.proofs.answer_move.Tie as tie
@@ -45,12 +43,9 @@ returns c =
     let told = p .before .before .known-told .given in
     let e = k .answer .given .1 in
     let room = now (k .before .before .before .args .room) in
-    let forward = k .answer .given .0 .0 in
-    let left = k .answer .given .0 .1 .0 in (
+    let g = k .answer .given .0 in (
       sym (ap (λ (m : Move). code (paperOfMove m)) e),
-      p .put-two .ensures
-          ∙ ap₂ (λ (f l : ℤ). putTwo room forwardAt f l) (toZ-ofZ w64 forward (record { sfits = told .0 .1 })) (toZ-ofZ w64 left (record { sfits = told .1 .0 .1 }))
-          ∙ sym (ap (λ (m : Move). moveBytes m room) e),
+      then-two {l = room} forwardAt (g .0) (g .1 .0) (told .0 .1) (told .1 .0 .1) refl (p .put-two .ensures) ∙ sym (ap (λ (m : Move). moveBytes m room) e),
     )
 
 returns-2 : tie.Need-returns-2

@@ -1,27 +1,19 @@
 -- `probes::send` meets its contract: four numbers, two, or a refusal.
-use Prim.Native.Nat.{ℕ, _^_, _<_}
 use native.Mathlib.Omega.{arith}
-use mathlib.Core.List.{List}
-use mathlib.Core.Path.{_≡_, refl, sym, ap, ap₂, _∙_, subst}
-use lib.IntN.{ℤ}
+use mathlib.Core.Path.{_≡_, refl, sym, ap, _∙_, subst}
 use lib.ListN.{length}
-use lib.Signed.{mag}
-use mir.Syntax.{w64}
-use mir.Val.{toZ, ofZ}
-use mir.ValLaws.{toZ-ofZ}
 use denote.Ref.{now}
 use Rattle.run.proofs.Narrow.{narrow-fits}
 use Rattle.probes.specs.declared.Reply.{Reply}
-use Rattle.codes.specs.Codes.{putTwo}
+use Rattle.codes.proofs.Widths.{then-two}
 use Rattle.probes.specs.Replies.{replyCode, replyBytes, Sendable}
 use borrow.Author.Needs.{needs}
 use Rattle.probes.proofs.send.Statement.{statement}
 use Rattle.probes.proofs.send.Tie as tie
 
--- what the call gets are the numbers, and the bytes that the call before it left
-then-two : {l k m : List ℕ} (at : ℕ) (a b : ℤ) → mag a < 2 ^ 63 → mag b < 2 ^ 63 → l ≡ k → m ≡ putTwo l at (toZ w64 (ofZ w64 a)) (toZ w64 (ofZ w64 b)) → m ≡ putTwo k at a b
-then-two {l} at a b s t e f =
-    f ∙ ap₂ (λ (x y : ℤ). putTwo l at x y) (toZ-ofZ w64 a (record { sfits = s })) (toZ-ofZ w64 b (record { sfits = t })) ∙ ap (λ (x : List ℕ). putTwo x at a b) e
+-- what is promised of the reply that came, by its case
+sendable : (s : tie.Start) {r : Reply} → s .args .reply ≡ r → Sendable (length (now (s .args .room))) r
+sendable s e = subst (λ (r : Reply). Sendable (length (now (s .args .room))) r) e (s .pre)
 
 enum-known-reply : tie.Need-enum-known-reply
 enum-known-reply c = search needs
@@ -31,8 +23,7 @@ unfolding Sendable
 put-two-requires c κs =
     let told = c .before .known-told .given in
     let k = c .before .before in
-    let start = k .before .before .before in
-    let v = subst (λ (r : Reply). Sendable (length (now (start .args .room))) r) (k .reply .given .1) (start .pre) in
+    let v = sendable (k .before .before .before) (k .reply .given .1) in
     (omega (arith, v .0), (narrow-fits _ (told .0 .1) (v .1), narrow-fits _ (told .1 .0 .1) (v .2)))
 
 put-two-requires-2 : tie.Need-put-two-requires-2
@@ -41,8 +32,7 @@ put-two-requires-2 c κs =
     let p = c .before .before .before in
     let told = p .before .before .known-told .given in
     let k = p .before .before .before in
-    let start = k .before .before .before in
-    let v = subst (λ (r : Reply). Sendable (length (now (start .args .room))) r) (k .reply .given .1) (start .pre) in
+    let v = sendable (k .before .before .before) (k .reply .given .1) in
     (omega (arith, v .0, p .put-two .kept .0), (narrow-fits _ (told .1 .1 .0 .1) (v .3), narrow-fits _ (told .1 .1 .1 .0 .1) (v .4)))
 
 enum-known-reply-2 : tie.Need-enum-known-reply-2
@@ -53,8 +43,7 @@ unfolding Sendable
 put-two-requires-3 c κs =
     let told = c .before .known-told2 .given in
     let k = c .before .before in
-    let start = k .before .before .before in
-    let v = subst (λ (r : Reply). Sendable (length (now (start .args .room))) r) (k .reply2 .given .1) (start .pre) in
+    let v = sendable (k .before .before .before) (k .reply2 .given .1) in
     (omega (arith, v .0), (narrow-fits _ (told .0 .1) (v .1), narrow-fits _ (told .1 .0 .1) (v .2)))
 
 enum-known-reply-3 : tie.Need-enum-known-reply-3
@@ -62,10 +51,7 @@ enum-known-reply-3 c = search needs
 
 code-of-requires : tie.Need-code-of-requires
 unfolding Sendable
-code-of-requires c κs =
-    let k = c .before in
-    let start = k .before .before .before in
-    subst (λ (r : Reply). Sendable (length (now (start .args .room))) r) (k .reply3 .given .1) (start .pre)
+code-of-requires c κs = let k = c .before in sendable (k .before .before .before) (k .reply3 .given .1)
 
 same-length : tie.Need-same-length
 same-length c = search needs

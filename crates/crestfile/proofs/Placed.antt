@@ -5,6 +5,7 @@ use mathlib.Core.Bool.{Bool, true, false}
 use mathlib.Core.List.{List, [], _∷_, _++_}
 use mathlib.Core.Path.{_≡_, refl, sym, _∙_}
 use lib.ListN.{length}
+use Rattle.integers.proofs.Order.{clash}
 use Rattle.model.specs.declared.Element.{Element}
 use Rattle.model.specs.declared.Refusal.{Refusal}
 use Rattle.model.specs.declared.Outcome.{Outcome}
@@ -24,14 +25,14 @@ PlacedOrder rs = (why : Refusal) → verdict rs ≡ Refused why → why .place �
 
 pub none-placed : PlacedOrder []
 unfolding verdict
-none-placed why e = let z : _≡_ {A = ℕ} 0 1 = cc in absurd (omega arith)
+none-placed why e = clash cc
 
 one-placed : (r : Rule) → r .place ≤ mostRecords → PlacedOrder (r ∷ [])
 unfolding verdict orRefused refusal
 one-placed r h why e = go (r .holds) e
   where
     go : (b : Bool) → orRefused b (r .why) (r .place) Done ≡ Refused why → why .place ≤ mostRecords
-    go true e = let z : _≡_ {A = ℕ} 0 1 = cc in absurd (omega arith)
+    go true e = clash cc
     go false e = let p : r .place ≡ why .place = cc in omega arith
 
 -- one part of an order after another

@@ -113,6 +113,10 @@ pub ≤ℤ-total : (a b : ℤ) → (a ≤ℤ b) ⊎ (b <ℤ a)
 
 -- ---- the order of ℕ within ℤ
 
+-- 0 is not 1; `cc` brings two different constructors to that: `clash cc`
+pub clash : {A : Type 0} → _≡_ {A = ℕ} 0 1 → A
+clash z = absurd (omega arith)
+
 pub pos-≤ : {m n : ℕ} → m ≤ n → pos m ≤ℤ pos n
 pos-≤ h = omega order
 

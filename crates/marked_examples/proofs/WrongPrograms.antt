@@ -6,6 +6,7 @@ use mathlib.Core.Path.{_≡_, refl, sym, _∙_, ap}
 use native.Mathlib.Omega.{arith}
 use lib.ListN.{getD, replicate}
 use lib.IntN.{ℤ, pos}
+use Rattle.integers.proofs.Order.{clash}
 use Rattle.model.specs.declared.Kind.the-variants.{Line}
 use Rattle.model.specs.declared.Element.{Element}
 use Rattle.model.specs.declared.Point.{Point}
@@ -41,8 +42,7 @@ unfolding verdict crestRules K
 refuses-all-files f refuses meets =
     let r = refuses K in
     let accepted : checkOf (fileCrest K) ≡ Done = refl in
-    let z : _≡_ {A = ℕ} 0 1 = cc (r .1, meets K, accepted) in
-    omega arith
+    clash (cc (r .1, meets K, accepted))
 
 -- what a point 5.12 mm along and 3 mm to the left of `short` is answered
 answered : Located
@@ -56,8 +56,7 @@ pub refuses-all-points : (f : List ℕ → Point → Located) → ((file : List 
 unfolding answered
 refuses-all-points f refuses meets =
     let p = point (pos 512) (pos 300) in
-    let z : _≡_ {A = ℕ} 0 1 = cc (refuses short p .1, meets short p, short-answered) in
-    omega arith
+    clash (cc (refuses short p .1, meets short p, short-answered))
 
 -- ---- "one that always answers station 0 (demand 3)": station 0 wherever it answers
 

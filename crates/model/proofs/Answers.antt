@@ -4,10 +4,10 @@ use Prim.Native.Nat.{ℕ}
 use mathlib.Core.List.{List, [], _∷_, _++_, append-assoc}
 use mathlib.Core.Logic.{_↔_}
 use mathlib.Core.Path.{_≡_, refl, sym, _∙_, ap}
-use native.Mathlib.Omega.{arith}
 use lib.ListN.{length, length-replicate}
 use lib.IntN.{ℤ, pos}
 use lib.Ieee.{Float}
+use Rattle.integers.proofs.Order.{clash}
 use Rattle.model.specs.declared.Element.{Element}
 use Rattle.model.specs.declared.Point.{Point}
 use Rattle.model.specs.declared.Refusal.{Refusal}
@@ -87,7 +87,7 @@ module _ {A : Type 0} {refused : Refusal → A} {paperOf : A → PaperAnswer} {q
   -- refused exactly when the order's outcome is, and answered else
   refused-by : (o : Outcome) (why : Refusal) → (answerIf o q ≡ refused why) ↔ (o ≡ Refused why)
   unfolding answerIf
-  refused-by Done why = ((λ e. absurd (tells .apart why e)), (λ e. let z : _≡_ {A = ℕ} 0 1 = cc in absurd (omega arith)))
+  refused-by Done why = ((λ e. absurd (tells .apart why e)), (λ e. clash cc))
   refused-by (Refused w) why = ((λ e. ap Refused (tells .one (sym (tells .refuses w) ∙ e))), (λ e. let s : w ≡ why = cc in ap (q .refused) s ∙ tells .refuses why))
 
   pub told-exactly : (before : List Rule) (why : Refusal) → (answerAfter before q ≡ refused why) ↔ (verdict (before ++ q .order) ≡ Refused why)
@@ -97,7 +97,7 @@ module _ {A : Type 0} {refused : Refusal → A} {paperOf : A → PaperAnswer} {q
   answered-by : (o : Outcome) → (answerIf o q ≡ q .answer) ↔ (o ≡ Done)
   unfolding answerIf
   answered-by Done = ((λ e. refl), (λ e. refl))
-  answered-by (Refused w) = ((λ e. absurd (tells .apart w (sym e ∙ tells .refuses w))), (λ e. let z : _≡_ {A = ℕ} 0 1 = cc in absurd (omega arith)))
+  answered-by (Refused w) = ((λ e. absurd (tells .apart w (sym e ∙ tells .refuses w))), (λ e. clash cc))
 
   pub told-answered : (before : List Rule) → (answerAfter before q ≡ q .answer) ↔ (verdict (before ++ q .order) ≡ Done)
   unfolding answerAfter
@@ -120,71 +120,29 @@ module _ {A : Type 0} {refused : Refusal → A} {paperOf : A → PaperAnswer} {q
 pub station-tells : (s : ℤ) (es : List Element) → Tells PlacedRefused paperOfPlaced (stationQuestion s es)
 unfolding stationRules stationQuestion paperOfPlaced
 station-tells s es =
-    record {
-      refuses = λ why. refl;
-      values = refl;
-      zeros = λ why. refl;
-      apart = λ why e. let z : _≡_ {A = ℕ} 0 1 = cc in omega arith;
-      one = λ e. cc;
-      bare = next refl none;
-    }
+    record { refuses = λ why. refl; values = refl; zeros = λ why. refl; apart = λ why e. clash cc; one = λ e. cc; bare = next refl none }
 
 pub point-tells : (p : Point) (es : List Element) → Tells LocatedRefused paperOfLocated (pointQuestion p es)
 unfolding pointRules pointQuestion paperOfLocated
 point-tells p es =
-    record {
-      refuses = λ why. refl;
-      values = refl;
-      zeros = λ why. refl;
-      apart = λ why e. let z : _≡_ {A = ℕ} 0 1 = cc in omega arith;
-      one = λ e. cc;
-      bare = next refl (next refl (next refl (next refl none)));
-    }
+    record { refuses = λ why. refl; values = refl; zeros = λ why. refl; apart = λ why e. clash cc; one = λ e. cc; bare = next refl (next refl (next refl (next refl none))) }
 
 pub place-tells : (s w : ℤ) (es : List Element) → Tells InverseRefused paperOfInverse (placeQuestion s w es)
 unfolding lineRules placeQuestion paperOfInverse
 place-tells s w es =
-    record {
-      refuses = λ why. refl;
-      values = refl;
-      zeros = λ why. refl;
-      apart = λ why e. let z : _≡_ {A = ℕ} 0 1 = cc in omega arith;
-      one = λ e. cc;
-      bare = next refl (next refl none);
-    }
+    record { refuses = λ why. refl; values = refl; zeros = λ why. refl; apart = λ why e. clash cc; one = λ e. cc; bare = next refl (next refl none) }
 
 pub move-tells : (own target : Point) (c s : ℤ) → Tells MoveRefused paperOfMove (moveQuestion own target c s)
 unfolding moveRules moveQuestion paperOfMove
 move-tells own target c s =
-    record {
-      refuses = λ why. refl;
-      values = refl;
-      zeros = λ why. refl;
-      apart = λ why e. let z : _≡_ {A = ℕ} 0 1 = cc in omega arith;
-      one = λ e. cc;
-      bare = next refl (next refl (next refl none));
-    }
+    record { refuses = λ why. refl; values = refl; zeros = λ why. refl; apart = λ why e. clash cc; one = λ e. cc; bare = next refl (next refl (next refl none)) }
 
 pub reading-tells : (r : Reading) (es : List Element) → Tells AnswerRefused (paperOfReading (valueCount r)) (readingQuestion r es)
 unfolding numberRules pointRules lineRules readingQuestion numberedQuestion pointQuestion placeQuestion fromLocated fromInverse valueCount paperOfReading
 reading-tells (PlanePoint x y) es =
-    record {
-      refuses = λ why. refl;
-      values = refl;
-      zeros = λ why. refl;
-      apart = λ why e. let z : _≡_ {A = ℕ} 0 1 = cc in omega arith;
-      one = λ e. cc;
-      bare = next refl (next refl (next refl (next refl (next refl none))));
-    }
+    record { refuses = λ why. refl; values = refl; zeros = λ why. refl; apart = λ why e. clash cc; one = λ e. cc; bare = next refl (next refl (next refl (next refl (next refl none)))) }
 reading-tells (LinePlace station offset) es =
-    record {
-      refuses = λ why. refl;
-      values = refl;
-      zeros = λ why. refl;
-      apart = λ why e. let z : _≡_ {A = ℕ} 0 1 = cc in omega arith;
-      one = λ e. cc;
-      bare = next refl (next refl (next refl none));
-    }
+    record { refuses = λ why. refl; values = refl; zeros = λ why. refl; apart = λ why e. clash cc; one = λ e. cc; bare = next refl (next refl (next refl none)) }
 
 -- ---- a reading's question is that of its numbers, after the rule that both are whole
 

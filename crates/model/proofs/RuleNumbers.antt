@@ -7,6 +7,7 @@ use native.Mathlib.Omega.{arith}
 use lib.Dec.{T, leb, leb→le}
 use mir.Facts.{and-yes}
 use borrow.Author.Tests.{lt-leb}
+use Rattle.integers.proofs.Order.{clash}
 use Rattle.model.specs.declared.Refusal.{Refusal}
 use Rattle.model.specs.declared.Outcome.the-variants.{Refused}
 use Rattle.model.specs.Records.{countOf, blockCount}
@@ -31,7 +32,7 @@ gives-forEach h (suc k) i = gives-++ (h i) (gives-forEach h k (i + 1))
 -- so the number of a refusal is one of them
 pub given : {t : ℕ → Bool} {rs : List Rule} (w : Refusal) → Gives t rs → verdict rs ≡ Refused w → t (w .number) ≡ true
 unfolding verdict orRefused refusal
-given w none e = let z : _≡_ {A = ℕ} 0 1 = cc in absurd (omega arith)
+given w none e = clash cc
 given {t} w (more {r} {rs} h a) e = either (r .holds) (given w a) e
   where
     either : (b : Bool) → (verdict rs ≡ Refused w → t (w .number) ≡ true) → orRefused b (r .why) (r .place) (verdict rs) ≡ Refused w → t (w .number) ≡ true

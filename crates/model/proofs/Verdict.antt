@@ -5,6 +5,7 @@ use mathlib.Core.List.{List, [], _∷_, _++_}
 use mathlib.Core.Logic.{_⊎_, inl, inr}
 use mathlib.Core.Path.{_≡_, refl, sym, _∙_, ap}
 use native.Mathlib.Omega.{arith}
+use Rattle.integers.proofs.Order.{clash}
 use Rattle.model.specs.declared.Refusal.{Refusal}
 use Rattle.model.specs.declared.Outcome.{Outcome}
 use Rattle.model.specs.declared.Outcome.the-variants.{Done, Refused}
@@ -48,7 +49,7 @@ pub record FirstFailing (rs : List Rule) (r : Rule) : Type 0 where
 step : (b : Bool) (why : Reason) (place : ℕ) (o : Outcome) → orRefused b why place o ≡ Done → (b ≡ true) × (o ≡ Done)
 unfolding orRefused
 step true why place o e = (refl, e)
-step false why place o e = let z : _≡_ {A = ℕ} 0 1 = cc in absurd (omega arith)
+step false why place o e = clash cc
 
 pub done→all : (rs : List Rule) → verdict rs ≡ Done → AllHold rs
 unfolding verdict
@@ -71,7 +72,7 @@ verdict-after (r ∷ rs) ss e =
 -- rules that refuse decide the outcome, whatever comes after them
 pub refused-before : (rs ss : List Rule) {x : Refusal} → verdict rs ≡ Refused x → verdict (rs ++ ss) ≡ Refused x
 unfolding verdict orRefused
-refused-before [] ss e = let z : _≡_ {A = ℕ} 0 1 = cc in absurd (omega arith)
+refused-before [] ss e = clash cc
 refused-before (r ∷ rs) ss {x} e = go (r .holds) (refused-before rs ss) e
   where
     go : (b : Bool) → (verdict rs ≡ Refused x → verdict (rs ++ ss) ≡ Refused x) → orRefused b (r .why) (r .place) (verdict rs) ≡ Refused x → orRefused b (r .why) (r .place) (verdict (rs ++ ss)) ≡ Refused x
@@ -113,7 +114,7 @@ here r rs why h e =
 
 pub refused→first : (rs : List Rule) (why : Refusal) → verdict rs ≡ Refused why → Cause rs why
 unfolding verdict orRefused
-refused→first [] why e = let z : _≡_ {A = ℕ} 0 1 = cc in absurd (omega arith)
+refused→first [] why e = clash cc
 refused→first (r ∷ rs) why e = go (λ d. refused→first rs why d) (r .holds) refl
   where
     at : (b : Bool) → r .holds ≡ b → orRefused b (r .why) (r .place) (verdict rs) ≡ Refused why

@@ -3,10 +3,10 @@ use mathlib.Core.Bool.{true, false, not, _&&_}
 use mathlib.Core.List.{List}
 use mathlib.Core.Path.{_≡_, refl, ap}
 use Prim.Native.Nat.{ℕ, _≤_, _<_}
-use native.Mathlib.Omega.{arith}
 use lib.Dec.{eqb}
 use lib.IntN.{ℤ, pos, negℤ}
 use lib.Signed.{ltZ, _<ℤ_}
+use Rattle.integers.proofs.Order.{clash}
 use Rattle.model.specs.declared.Element.{Element}
 use Rattle.model.specs.declared.Point.{Point}
 use Rattle.model.specs.declared.Located.the-variants.{At as LocatedAt, Refused as LocatedRefused}
@@ -23,7 +23,7 @@ test-true : (s t : ℕ) (a b : ℤ) → (eqb s t && ltZ a b) ≡ true → (s ≡
 test-true s t a b e = at-end-fails s t a b .0 (ap not e)
 
 test-false : (s t : ℕ) (a b : ℤ) → (eqb s t && ltZ a b) ≡ false → ¬ ((s ≡ t) × (a <ℤ b))
-test-false s t a b e x = let z : _≡_ {A = ℕ} 0 1 = cc (at-end-fails s t a b .1 x, ap not e) in omega arith
+test-false s t a b e x = clash (cc (at-end-fails s t a b .1 x, ap not e))
 
 module _ (es : List Element) (p : Point) where
   abbrev s : ℕ

@@ -5,6 +5,7 @@ use mathlib.Core.Path.{_≡_, refl, sym, subst}
 use native.Mathlib.Omega.{arith}
 use lib.IntN.{ℤ, natAbs}
 use Rattle.integers.proofs.Ranges.{fits-below}
+use Rattle.integers.proofs.Order.{clash}
 use Rattle.model.specs.declared.Element.{Element}
 use Rattle.model.specs.declared.Point.{Point}
 use Rattle.model.specs.declared.Placed.{Placed}
@@ -70,7 +71,7 @@ module _ (c : Crest) (sound : SoundCrest c) where
 
   located-answers : (p : Point) (station : ℕ) (offset residual : ℤ) (visits : ℕ) → located c p ≡ LocatedAt station offset residual visits → Answers station offset residual visits
   located-answers p station offset residual visits e =
-      let on = told-answer (point-tells p es) (c .rules) {a = LocatedAt station offset residual visits} (λ why f. let z : _≡_ {A = ℕ} 0 1 = cc in omega arith) e in
+      let on = told-answer (point-tells p es) (c .rules) {a = LocatedAt station offset residual visits} (λ why f. clash cc) e in
       let accepted = sound .accepted (on .0) in
       let a = answered es p station offset residual visits .0 (on .1) in
       record {

@@ -2,10 +2,11 @@
 use mathlib.Core.Bool.{Bool, true, false}
 use mathlib.Core.Path.{_≡_, refl, sym, _∙_}
 use native.Mathlib.Omega.{arith}
-use Prim.Native.Nat.{ℕ, _*_, _≤_, _^_}
+use Prim.Native.Nat.{_*_, _≤_, _^_}
 use borrow.Author.Tests.{leb-true}
 use lib.IntN.{ℤ, pos, natAbs, negℤ, _+ℤ_, _-ℤ_, _*ℤ_}
 use Rattle.integers.proofs.Abs.{natAbs-neg, natAbs--}
+use Rattle.integers.proofs.Order.{clash}
 use Rattle.model.specs.declared.Point.{Point}
 use Rattle.model.specs.declared.Move.the-variants.{By, Refused}
 use Rattle.model.specs.Refusals.{verdict, orRefused, refusal, number}
@@ -66,7 +67,7 @@ pub move-small : (own target : Point) (c s : ℤ) {forward left : ℤ} → stake
 move-small own target c s {forward} {left} e = go (inFrame (own .x) (own .y)) refl (inFrame (target .x) (target .y)) refl (isUnit c s) refl
   where
     go : (f : Bool) → inFrame (own .x) (own .y) ≡ f → (g : Bool) → inFrame (target .x) (target .y) ≡ g → (u : Bool) → isUnit c s ≡ u → (natAbs forward ≤ 4 * frame) × (natAbs left ≤ 4 * frame)
-    go false h g i u j = let r = own-outside own target c s h in let z : _≡_ {A = ℕ} 0 1 = cc in absurd (omega arith)
-    go true h false i u j = let r = target-outside own target c s h i in let z : _≡_ {A = ℕ} 0 1 = cc in absurd (omega arith)
-    go true h true i false j = let r = no-unit own target c s h i j in let z : _≡_ {A = ℕ} 0 1 = cc in absurd (omega arith)
+    go false h g i u j = let r = own-outside own target c s h in clash cc
+    go true h false i u j = let r = target-outside own target c s h i in clash cc
+    go true h true i false j = let r = no-unit own target c s h i j in clash cc
     go true h true i true j = moved-small own target c s (stakeable own target c s h i j) (sym (moves own target c s h i j) ∙ e)

@@ -2,10 +2,10 @@
 use mathlib.Core.Bool.{Bool, true, false, _&&_}
 use mathlib.Core.List.{List}
 use mathlib.Core.Path.{_≡_, refl}
-use Prim.Native.Nat.{ℕ, _≤_}
-use native.Mathlib.Omega.{arith}
+use Prim.Native.Nat.{_≤_}
 use lib.Dec.{leb}
 use lib.IntN.{ℤ, natAbs}
+use Rattle.integers.proofs.Order.{clash}
 use Rattle.model.specs.declared.Element.{Element}
 use Rattle.model.specs.declared.Point.{Point}
 use Rattle.model.specs.declared.Inverse.the-variants.{At, Refused}
@@ -34,8 +34,8 @@ pub inverse-small : (es : List Element) (s w : ℤ) {x y : ℤ} → inverseOn es
 inverse-small es s w {x} {y} e = let q = inverseAt es (natAbs s) w in go q refl (isStation es s && leb (natAbs w) widestOffset) refl (inFrame (q .x) (q .y)) refl
   where
     go : (q : Point) → q ≡ inverseAt es (natAbs s) w → (a : Bool) → (isStation es s && leb (natAbs w) widestOffset) ≡ a → (b : Bool) → inFrame (q .x) (q .y) ≡ b → (natAbs x ≤ frame) × (natAbs y ≤ frame)
-    go q i false h b k = let r = inverse-off-line es s w h in let z : _≡_ {A = ℕ} 0 1 = cc in absurd (omega arith)
-    go q i true h false k = let r = inverse-outside es s w h (rw i at k) in let z : _≡_ {A = ℕ} 0 1 = cc in absurd (omega arith)
+    go q i false h b k = let r = inverse-off-line es s w h in clash cc
+    go q i true h false k = let r = inverse-outside es s w h (rw i at k) in clash cc
     go q i true h true k =
         let r = inverse-inside es s w h (rw i at k) in
         let ex : x ≡ q .x = cc in

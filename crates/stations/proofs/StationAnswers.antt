@@ -1,10 +1,9 @@
 -- What is answered for a station that is in range, and for one that is not.
-use Prim.Native.Nat.{ℕ}
 use mathlib.Core.Bool.{Bool, true, false}
 use mathlib.Core.List.{List}
 use mathlib.Core.Path.{_≡_, refl}
-use native.Mathlib.Omega.{arith}
 use lib.IntN.{ℤ, natAbs}
+use Rattle.integers.proofs.Order.{clash}
 use Rattle.model.specs.declared.Element.{Element}
 use Rattle.model.specs.declared.Placed.the-variants.{At, Refused}
 use Rattle.model.specs.Refusals.{verdict, orRefused, refusal, number}
@@ -29,7 +28,7 @@ pub place-small : (es : List Element) (s : ℤ) → AllAccepted es → {x y tx t
 place-small es s a {x} {y} {tx} {ty} q = go (isStation es s) refl
   where
     go : (b : Bool) → isStation es s ≡ b → Placeable (record { x = x; y = y; tx = tx; ty = ty })
-    go false h = let r = place-refused es s h in let z : _≡_ {A = ℕ} 0 1 = cc in absurd (omega arith)
+    go false h = let r = place-refused es s h in clash cc
     go true h =
         let r = place-done es s h in
         let b = station-placeable es (natAbs s) a (station-within es s h .1) in

@@ -3,8 +3,7 @@ use mathlib.Core.Bool.{false}
 use mathlib.Core.List.{List}
 use mathlib.Core.Logic.{_↔_}
 use mathlib.Core.Path.{_≡_}
-use Prim.Native.Nat.{ℕ}
-use native.Mathlib.Omega.{arith}
+use Rattle.integers.proofs.Order.{clash}
 use Rattle.model.specs.declared.Element.{Element}
 use Rattle.model.specs.declared.Refusal.{Refusal}
 use Rattle.model.specs.declared.Outcome.the-variants.{Done}
@@ -17,4 +16,4 @@ use Rattle.model.proofs.Answers.{Tells, told-later}
 -- an answer, and a refusal with a number that is no crest's own, is given exactly when the crest is accepted and its elements give it
 pub asked-exactly : {A : Type 0} {refused : Refusal → A} {paperOf : A → PaperAnswer} (question : List Element → Question A) (c : Crest) → Tells refused paperOf (question (c .elements)) → Gives isOwn (c .rules) →
     (a : A) → ((w : Refusal) → a ≡ refused w → isOwn (w .number) ≡ false) → (asked question c ≡ a) ↔ ((checkOf c ≡ Done) × (answerOf (question (c .elements)) ≡ a))
-asked-exactly question c tells own a later = told-later tells (c .rules) (λ w k e. let z : _≡_ {A = ℕ} 0 1 = cc (given w own k, later w e) in omega arith)
+asked-exactly question c tells own a later = told-later tells (c .rules) (λ w k e. clash (cc (given w own k, later w e)))

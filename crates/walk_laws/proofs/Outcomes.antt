@@ -13,7 +13,7 @@ use lib.Signed.{ltZ, ltZ-yes, _<ℤ_}
 use lib.Ieee.Bits.{is-true}
 use mir.Facts.{and-yes, yes-and, yes-eqb}
 use borrow.Author.Tests.{leb-true, leb-false, le-leb, lt-leb, not-false}
-use Rattle.integers.proofs.Order.{order}
+use Rattle.integers.proofs.Order.{order, clash}
 use Rattle.model.specs.declared.Element.{Element}
 use Rattle.model.specs.declared.Point.{Point}
 use Rattle.model.specs.declared.Refusal.{Refusal}
@@ -65,8 +65,8 @@ at-end-fails s t a b = (
 
 -- a test that fails exactly when P holds, holds exactly when P does not
 holds-unless : {P : Type 0} (b : Bool) → ((b ≡ false) ↔ P) → (b ≡ true) ↔ (¬ P)
-holds-unless true f = ((λ e x. let z : _≡_ {A = ℕ} 0 1 = cc (f .1 x) in omega arith), (λ h. refl))
-holds-unless false f = ((λ e. let z : _≡_ {A = ℕ} 0 1 = cc in absurd (omega arith)), (λ h. absurd (h (f .0 refl))))
+holds-unless true f = ((λ e x. clash (cc (f .1 x))), (λ h. refl))
+holds-unless false f = ((λ e. clash cc), (λ h. absurd (h (f .0 refl))))
 
 -- ---- from the verdict to the answer
 
@@ -78,7 +78,7 @@ located-at : (o : Outcome) (es : List Element) (p : Point) (station : ℕ) (offs
     ((o ≡ Done) × (station ≡ s) × (offset ≡ offsetAt es p s) × (residual ≡ residualAt es p s) × (count ≡ visitCount es p))
 unfolding answerIf pointQuestion
 located-at Done es p station offset residual count = ((λ e. (refl, cc, cc, cc, cc)), (λ x. cc (x .1, x .2, x .3, x .4)))
-located-at (Refused r) es p station offset residual count = ((λ e. let z : _≡_ {A = ℕ} 0 1 = cc in absurd (omega arith)), (λ x. let z : _≡_ {A = ℕ} 0 1 = cc (x .0) in absurd (omega arith)))
+located-at (Refused r) es p station offset residual count = ((λ e. clash cc), (λ x. clash (cc (x .0))))
 
 -- ---- each outcome
 
@@ -211,4 +211,4 @@ module _ (c : Crest) (own : Gives isOwn (c .rules)) (p : Point) where
 
   pub crest-answered : (station : ℕ) (offset residual : ℤ) (count : ℕ) → (located c p ≡ LocatedAt station offset residual count) ↔ ((checkOf c ≡ Done) × Answered (c .elements) p station offset residual count)
   crest-answered station offset residual count =
-      on-crest (LocatedAt station offset residual count) (λ w e. let z : _≡_ {A = ℕ} 0 1 = cc in absurd (omega arith)) (answered (c .elements) p station offset residual count)
+      on-crest (LocatedAt station offset residual count) (λ w e. clash cc) (answered (c .elements) p station offset residual count)

@@ -8,6 +8,7 @@ use native.Mathlib.Omega.{arith}
 use native.Mathlib.Nat.{le-refl}
 use native.Mathlib.Decide.{decLt}
 use lib.ListN.{length}
+use Rattle.integers.proofs.Order.{clash}
 use Rattle.model.specs.declared.Element.{Element}
 use Rattle.model.specs.declared.Point.{Point}
 use Rattle.model.specs.Series.{positionOn}
@@ -24,7 +25,7 @@ pub record Passed (d : ℕ → ℕ) (lo hi b : ℕ) (vs : List ℕ) : Type 0 whe
   pub farther : (s : ℕ) → lo ≤ s → s < hi → isIn s vs ≡ false → bestOf d b vs < d s
 
 neither : (a b : Bool) → (a || b) ≡ false → (a ≡ false) × (b ≡ false)
-neither true b e = let z : _≡_ {A = ℕ} 0 1 = cc in absurd (omega arith)
+neither true b e = clash cc
 neither false b e = (refl, e)
 
 passed-++ : {d : ℕ → ℕ} {lo mid hi b : ℕ} {vs ws : List ℕ} → lo ≤ mid → mid ≤ hi → Passed d lo mid b vs → Passed d mid hi (bestOf d b vs) ws → Passed d lo hi b (vs ++ ws)
@@ -52,7 +53,7 @@ module _ (d : ℕ → ℕ) (lo hi : ℕ) (spaced : (s j b : ℕ) → lo ≤ s �
       j = skipped (d s) best
 
       go : (x : ℕ) → s ≤ x → x < hi → isIn x (s ∷ vs) ≡ false → Place x s vs → Dec (x < s + 1 + j) → bestOf d best vs < d x
-      go x m n e (here q i) c = let z : _≡_ {A = ℕ} 0 1 = cc in absurd (omega arith)
+      go x m n e (here q i) c = clash cc
       go x m n e (later q i) (no c) = p .farther x (omega arith) n (sym i ∙ e)
       go x m n e (later q i) (yes c) =
           let y : s + (x - s) ≡ x = omega arith in

@@ -4,7 +4,7 @@ use mathlib.Core.List.{List, [], _∷_, _++_}
 use mathlib.Core.Logic.{_↔_, _≢_}
 use mathlib.Core.Path.{_≡_, refl, ap}
 use Prim.Native.Nat.{ℕ}
-use native.Mathlib.Omega.{arith}
+use Rattle.integers.proofs.Order.{clash}
 use Rattle.model.specs.declared.Refusal.{Refusal}
 use Rattle.model.specs.declared.Outcome.the-variants.{Refused}
 use Rattle.model.specs.Refusals.{Rule, number, refusal, Gives, none, more, orRefused, verdict}
@@ -32,7 +32,7 @@ lacks-++ (other h k) l = other h (lacks-++ k l)
 -- rules lack every number but those that they give
 pub lacks-other : {t : ℕ → Bool} {n : ℕ} {rs : List Rule} → Gives t rs → t n ≡ false → Lacks n rs
 lacks-other none h = empty
-lacks-other {t} (more {r} k a) h = other {r = r} (λ e. let z : _≡_ {A = ℕ} 0 1 = cc (ap t e) in omega arith) (lacks-other a h)
+lacks-other {t} (more {r} k a) h = other {r = r} (λ e. clash (cc (ap t e))) (lacks-other a h)
 
 -- a refusal of an order that begins with r comes from r, or from the rules after it
 data Source (r : Rule) (rs : List Rule) (w : Refusal) : Type 0 where
@@ -49,7 +49,7 @@ source r rs w e = go (r .holds) refl e
 
 pub lacks→not-given : {rs : List Rule} {w : Refusal} → Lacks (w .number) rs → verdict rs ≡ Refused w → ⊥
 unfolding verdict
-lacks→not-given empty e = let z : _≡_ {A = ℕ} 0 1 = cc in omega arith
+lacks→not-given empty e = clash cc
 lacks→not-given {w} (other {r} {rs} h l) e = go (lacks→not-given l) (source r rs w e)
   where
     go : (verdict rs ≡ Refused w → ⊥) → Source r rs w → ⊥

@@ -9,6 +9,7 @@ use native.Mathlib.Nat.{le-refl, le-trans}
 use lib.ListN.{length}
 use lib.Dec.{eqb}
 use borrow.Author.Tests.{eqb-true, eqb-false}
+use Rattle.integers.proofs.Order.{clash}
 use Rattle.model.specs.Walk.{multiplesFrom, firstVisits, bestOf, isIn}
 
 -- ---- which stations are in a list
@@ -37,7 +38,7 @@ place s v vs = go (eqb s v) refl
 
 pub not-in-none : (s : ℕ) → isIn s [] ≡ true → ⊥
 unfolding isIn
-not-in-none s e = let z : _≡_ {A = ℕ} 0 1 = cc in omega arith
+not-in-none s e = clash cc
 
 -- ---- lists that rise
 

@@ -13,7 +13,7 @@ use Rattle.model.specs.Records.{u16At, u32At, part, allZero, sumA, sumB, usedIn
 use Rattle.model.specs.Writer.{block}
 use Rattle.model.specs.Acceptance.{sumsAgree, useFits, fieldsFit}
 use Rattle.blocks.proofs.Bytes.{AllBytes}
-use Rattle.records.proofs.Tests.{eq-test, le-test, both-tests}
+use Rattle.integers.proofs.Tests.{eq-test, le-test, both-tests}
 use Rattle.blocks.proofs.Parts.{length-part}
 use Rattle.blocks.proofs.OneBlock.{Fields, fields-block}
 

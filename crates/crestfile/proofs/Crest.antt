@@ -15,7 +15,7 @@ use Rattle.model.specs.Refusals.{forEach, verdict}
 use Rattle.model.specs.Acceptance.{lengthFits, sumsAgree, fieldsFit, sumRules, fieldRules, recordsRules, blocksRules, crestRules}
 use Rattle.model.specs.Writer.{blocksNeeded, countFits}
 use Rattle.model.proofs.Verdict.{AllHold, more, done→all, all→done}
-use Rattle.records.proofs.Tests.{eq-test, le-test, both-tests, either-test}
+use Rattle.integers.proofs.Tests.{eq-test, le-test, both-tests, either-test}
 use Rattle.blocks.proofs.Parts.{length-part}
 use Rattle.crestfile.proofs.ForEach.{all-append, append-all, one-holds, holds-one, each→all, all→each}
 use Rattle.blocks.proofs.BlockRules.{Sound}

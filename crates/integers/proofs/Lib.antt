@@ -1,4 +1,5 @@
 -- The laws that belong to no one function.
+pub mod Tests
 pub mod Ring
 pub mod Order
 pub mod Abs

@@ -33,6 +33,9 @@ abbrev pub widest : ℕ
 widest = 10000000
 
 -- "c² + s² at most 2^31 from 2^60"
+abbrev pub unitSquare : ℕ
+unitSquare = 2 ^ 60
+
 abbrev pub unitSlack : ℕ
 unitSlack = 2 ^ 31
 
@@ -132,7 +135,7 @@ rangesGood e = lengthGood (e .length) && radiusGood (shapeOf (e .kind)) (wholeLe
 
 -- "Direction: c² + s² at most 2^31 from 2^60."
 unfoldable pub isUnit : ℤ → ℤ → Bool
-isUnit c s = leb (natAbs (c *ℤ c +ℤ s *ℤ s -ℤ pos (2 ^ 60))) unitSlack
+isUnit c s = leb (natAbs (c *ℤ c +ℤ s *ℤ s -ℤ pos unitSquare)) unitSlack
 
 -- "record by record its kind, reserved bytes, 6, 7": of record r with its bytes
 unfoldable pub recordRules : List ℕ → ℕ → List Rule

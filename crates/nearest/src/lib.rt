@@ -25,7 +25,7 @@ pub fn locate(crest: &[u8], amendment: &[u8], form: Form, q: Point) -> Located
     ensures { λ r. ⌜ r ≡ locatedOn (elementsLent form (crest .entry) (amendment .entry)) q ⌝ }
     ensures paper { λ r. ⌜ paperOfLocated r ≡ paperAfter [] (pointQuestion q (elementsLent form (crest .entry) (amendment .entry))) ⌝ }
 {
-    if !records::in_frame(q.x, q.y) {
+    if !plane::in_frame(q.x, q.y) {
         return refused(refusals::OUTSIDE_FRAME);
     }
     let w = walk::walk(crest, amendment, form, q);

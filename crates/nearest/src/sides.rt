@@ -10,7 +10,7 @@ ghost use lib.IntN.{pos, negℤ};
 ghost use lib.Signed.{ltZ};
 ghost use Rattle.model.specs.Answers.{pastEnd};
 ghost use Rattle.elements.specs.Extent.{Placeable};
-ghost use Rattle.walk.specs.Search.{InFrame};
+ghost use Rattle.plane.specs.Frame.{InFrame};
 ghost use Rattle.nearest.specs.Sides.{sidesOf};
 
 pub struct Sides {

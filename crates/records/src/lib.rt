@@ -10,6 +10,8 @@ use model::layout;
 use model::limits;
 use model::refusals;
 use model::shape_of;
+use plane::in_frame;
+use plane::is_unit;
 ghost use mathlib.Core.List.{[]};
 ghost use mathlib.Core.Path.{_≡_};
 ghost use Prim.Native.Nat.{_+_, _≤_};
@@ -19,7 +21,7 @@ ghost use lib.ListN.{length};
 ghost use Rattle.model.specs.Kinds.{decide};
 ghost use Rattle.model.specs.Records.{recordSize, i32At, allZero};
 ghost use Rattle.model.specs.Refusals.{verdict};
-ghost use Rattle.model.specs.Acceptance.{longestElement, kindIn, elementOf, reservedZero, inFrame, radiusGood, rangesGood, isUnit, recordRules};
+ghost use Rattle.model.specs.Acceptance.{longestElement, kindIn, elementOf, reservedZero, radiusGood, rangesGood, recordRules};
 ghost use Rattle.model.specs.Answers.{paperIf, paperOfOutcome};
 
 // Whether all bytes are zero.
@@ -34,38 +36,6 @@ pub fn all_zero(s: &[u8]) -> bool
         i += 1;
     }
     true
-}
-
-// Whether a point lies in the frame.
-pub fn in_frame(x: i64, y: i64) -> bool
-    ensures { λ r. ⌜ r ≡ inFrame x y ⌝ }
-{
-    if magnitude(x) > limits::FRAME {
-        return false;
-    }
-    magnitude(y) <= limits::FRAME
-}
-
-// Components above 2^31 are no unit's, and the squares of others add up to a u64.
-const COMPONENT: u64 = 0x8000_0000;
-
-// Whether c² + s² is at most 2^31 from 2^60.
-pub fn is_unit(c: i64, s: i64) -> bool
-    ensures { λ r. ⌜ r ≡ isUnit c s ⌝ }
-{
-    let m = magnitude(c);
-    let n = magnitude(s);
-    if m > COMPONENT {
-        return false;
-    }
-    if n > COMPONENT {
-        return false;
-    }
-    let sum = m * m + n * n;
-    if sum > limits::MOST_UNIT {
-        return false;
-    }
-    sum >= limits::LEAST_UNIT
 }
 
 // Whether x is from low to high.

@@ -2,7 +2,7 @@
 use mathlib.Core.Bool.{Bool, true, false}
 use mathlib.Core.Path.{_≡_, refl, sym, _∙_}
 use native.Mathlib.Omega.{arith}
-use Prim.Native.Nat.{_*_, _≤_, _^_}
+use Prim.Native.Nat.{ℕ, _*_, _≤_, _^_}
 use borrow.Author.Tests.{leb-true}
 use lib.IntN.{ℤ, pos, natAbs, negℤ, _+ℤ_, _-ℤ_, _*ℤ_}
 use Rattle.integers.proofs.Abs.{natAbs-neg, natAbs--}
@@ -10,13 +10,13 @@ use Rattle.integers.proofs.Order.{clash}
 use Rattle.model.specs.declared.Point.{Point}
 use Rattle.model.specs.declared.Move.the-variants.{By, Refused}
 use Rattle.model.specs.Refusals.{verdict, orRefused, refusal, number}
-use Rattle.model.specs.Acceptance.{frame, unitSlack, inFrame, isUnit}
+use Rattle.model.specs.Acceptance.{frame, unitSquare, unitSlack, inFrame, isUnit}
 use Rattle.model.specs.Rounding.{ONE, near}
 use Rattle.model.specs.Judged.{minus}
 use Rattle.model.specs.Answers.{answerIf, answerAfter, forwardOf, leftOf, moveRules, moveQuestion, stakeOut}
+use Rattle.plane.proofs.Frame.{framed}
 use Rattle.rounding.proofs.Sizes.{near-turn}
 use Rattle.elements.proofs.Extent.{unit-within, unit-within′}
-use Rattle.records.proofs.Frame.{framed}
 use Rattle.stakes.specs.StakeRanges.{Stakeable}
 
 module _ (own target : Point) (c s : ℤ) where
@@ -41,10 +41,8 @@ module _ (own target : Point) (c s : ℤ) where
       pub stakeable : isUnit c s ≡ true → Stakeable own target c s
       unfolding isUnit
       stakeable h =
-          let o = framed (own .x) (own .y) f in
-          let t = framed (target .x) (target .y) g in
-          let u : natAbs (c *ℤ c +ℤ s *ℤ s -ℤ pos (2 ^ 60)) ≤ unitSlack = leb-true _ _ h in
-          record { ownX = o .0; ownY = o .1; targetX = t .0; targetY = t .1; first = unit-within c s u; second = unit-within′ c s u }
+          let u : natAbs (c *ℤ c +ℤ s *ℤ s -ℤ pos unitSquare) ≤ unitSlack = leb-true _ _ h in
+          record { from = framed own f; to = framed target g; first = unit-within c s u; second = unit-within′ c s u }
 
 apart : (a b : ℤ) → natAbs a ≤ frame → natAbs b ≤ frame → natAbs (a -ℤ b) ≤ 2 * frame
 apart a b h k = omega (arith, natAbs-- a b)
@@ -55,8 +53,8 @@ unfolding forwardOf leftOf minus
 moved-small own target c s {forward} {left} k e =
     let dx = target .x -ℤ own .x in
     let dy = target .y -ℤ own .y in
-    let x = apart (target .x) (own .x) (k .targetX) (k .ownX) in
-    let y = apart (target .y) (own .y) (k .targetY) (k .ownY) in
+    let x = apart (target .x) (own .x) (k .to .x) (k .from .x) in
+    let y = apart (target .y) (own .y) (k .to .y) (k .from .y) in
     let f : forward ≡ near (c *ℤ dx +ℤ s *ℤ dy) ONE = cc in
     let l : left ≡ near (negℤ s *ℤ dx +ℤ c *ℤ dy) ONE = cc in
     let m : natAbs (negℤ s) ≤ ONE = omega (arith, natAbs-neg s, k .second) in

@@ -13,7 +13,7 @@ use Rattle.model.specs.Refusals.{verdict, orRefused, refusal, number}
 use Rattle.model.specs.Acceptance.{frame, inFrame}
 use Rattle.model.specs.Stations.{isStation}
 use Rattle.model.specs.Answers.{widestOffset, inverseAt, lineRules, answerIf, answerAfter, placeQuestion, inverseOn}
-use Rattle.records.proofs.Frame.{framed}
+use Rattle.plane.proofs.Frame.{framed}
 
 module _ (es : List Element) (s w : ℤ) where
   pub inverse-off-line : (isStation es s && leb (natAbs w) widestOffset) ≡ false → inverseOn es s w ≡ Refused (record { number = 15; place = 0 })
@@ -40,4 +40,5 @@ inverse-small es s w {x} {y} e = let q = inverseAt es (natAbs s) w in go q refl 
         let r = inverse-inside es s w h (rw i at k) in
         let ex : x ≡ q .x = cc in
         let ey : y ≡ q .y = cc in
-        rw (ex, ey) (framed (q .x) (q .y) k)
+        let f = framed q k in
+        rw (ex, ey) (f .x, f .y)

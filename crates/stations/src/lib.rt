@@ -8,7 +8,7 @@ use model::Point;
 use model::Refusal;
 use model::limits;
 use model::refusals;
-use records::in_frame;
+use plane::in_frame;
 use rounding::near_one;
 use sources::Form;
 use sources::count_in;

@@ -4,15 +4,15 @@ use mathlib.Core.Bool.{Bool, cond, _&&_, _||_}
 use mathlib.Core.List.{List, [], _∷_, _++_}
 use mathlib.Core.Path.{_≡_}
 use lib.Dec.{eqb, ltb}
-use lib.IntN.{natAbs}
 use Rattle.integers.specs.Root.{root}
 use Rattle.model.specs.declared.Element.{Element}
 use Rattle.model.specs.declared.Point.{Point}
-use Rattle.model.specs.Acceptance.{frame, longestElement}
+use Rattle.model.specs.Acceptance.{longestElement}
 use Rattle.model.specs.Series.{positionOn}
 use Rattle.model.specs.Stations.{distanceSq, D}
 use Rattle.model.specs.Judged.{judged}
 use Rattle.model.specs.Walk.{multiplesFrom, skipped, elementVisits, ownStations, visitCount}
+use Rattle.plane.specs.Frame.{InFrame}
 use Rattle.walk.specs.declared.Pass.{Pass}
 use Rattle.walk.specs.declared.Pass.the-variants.{First, Second}
 use Rattle.walk.specs.declared.Seen.{Seen}
@@ -20,12 +20,7 @@ use Rattle.walk.specs.declared.visit.Stride.{Stride}
 use Rattle.elements.specs.declared.Prepared.{Prepared}
 use Rattle.elements.specs.Prepared.{Ready}
 
--- "The frame: every given point lies within ±200,000,000 in both coordinates."
-pub record InFrame (q : Point) : Type 0 where
-  pub x : natAbs (q .x) ≤ frame
-  pub y : natAbs (q .y) ≤ frame
-
--- the best before any visit: it lies above every squared distance of such a point
+-- the best before any visit: it lies above every squared distance of a point in the frame
 abbrev pub unreached : ℕ
 unreached = 2 ^ 62
 

@@ -2,8 +2,9 @@
 use model::Point;
 use sources::Form;
 ghost use mathlib.Core.Path.{_≡_};
+ghost use Rattle.plane.specs.Frame.{InFrame};
 ghost use Rattle.sources.specs.Sources.{elementsLent, SourceAccepted};
-ghost use Rattle.walk.specs.Search.{InFrame, walkedOf};
+ghost use Rattle.walk.specs.Search.{walkedOf};
 
 mod passes;
 mod visit;

@@ -10,9 +10,10 @@ ghost use Rattle.integers.specs.Root.{root};
 ghost use Rattle.model.specs.Acceptance.{frame};
 ghost use Rattle.model.specs.Series.{positionOn};
 ghost use Rattle.model.specs.Stations.{distanceSq};
+ghost use Rattle.plane.specs.Frame.{InFrame};
 ghost use Rattle.elements.specs.Extent.{widestPosition};
 ghost use Rattle.elements.specs.Prepared.{Ready};
-ghost use Rattle.walk.specs.Search.{unreached, InFrame, seenAt, Known, Strided};
+ghost use Rattle.walk.specs.Search.{unreached, seenAt, Known, Strided};
 
 // The step to the next station: how many stations it leaves out, and for the steps after it the whole root b of the best and
 // the square of b + 31, below which none is left out. Where the limit is 0, the root is not taken yet.

@@ -21,13 +21,13 @@ use Rattle.model.specs.Walk.{visitCount}
 use Rattle.model.specs.Answers.{farthest, pastEnd}
 use Rattle.model.proofs.Answers.{told, point-tells}
 use Rattle.model.proofs.Judged.{judged-least}
+use Rattle.plane.proofs.Frame.{framed}
 use Rattle.elements.specs.declared.Placement.{Placement}
 use Rattle.elements.specs.Extent.{Placeable}
 use Rattle.sources.specs.Sources.{elementsLent}
 use Rattle.stations.proofs.StationExtent.{station-placeable}
 use Rattle.walk.specs.declared.Seen.{Seen}
-use Rattle.records.proofs.Frame.{framed as within-frame}
-use Rattle.walk.specs.Search.{InFrame, walkedOf}
+use Rattle.walk.specs.Search.{walkedOf}
 use Rattle.nearest.specs.declared.sides.Sides.{Sides}
 use Rattle.nearest.specs.Sides.{sidesOf}
 use Rattle.nearest.proofs.Deciding.{gives-11, gives-12, gives-13, gives-14, gives-answer}
@@ -36,11 +36,8 @@ use Rattle.nearest.proofs.locate.Tie as tie
 
 -- ---- in the frame
 
-in-frame : (q : Point) → inFrame (q .x) (q .y) ≡ true → InFrame q
-in-frame q e = let b = within-frame (q .x) (q .y) e in record { x = b .0; y = b .1 }
-
-framed : (c : tie.After-in-frame) → let q = c .before .before .before .before .before .args .q in c .in-frame .result ≡ inFrame (q .x) (q .y)
-framed c =
+frame-tested : (c : tie.After-in-frame) → let q = c .before .before .before .before .before .args .q in c .in-frame .result ≡ inFrame (q .x) (q .y)
+frame-tested c =
     let q = c .before .before .before .before .before .args .q in
     let given = c .before .struct-told2 .given in
     let x = toZ-ofZ {w = w64} {z = q .x} (record { sfits = given .0 .1 }) in
@@ -48,7 +45,7 @@ framed c =
     c .in-frame .ensures ∙ ap₂ inFrame x y
 
 inside : (c : tie.Else1) → let q = c .before .before .before .before .before .before .args .q in inFrame (q .x) (q .y) ≡ true
-inside c = sym (framed (c .before)) ∙ not-false _ (c .if1 .left)
+inside c = sym (frame-tested (c .before)) ∙ not-false _ (c .if1 .left)
 
 -- ---- the station judged
 
@@ -138,10 +135,10 @@ returns : tie.Need-returns
 returns c =
     let f = c .before .before in
     let a = f .before .before .before .before .before .args in
-    told (point-tells _ _) [] (c .refused .ensures ∙ sym (gives-11 (elementsLent (a .form) (a .crest) (a .amendment)) (a .q) (sym (framed f) ∙ not-true _ (c .before .if1 .taken))))
+    told (point-tells _ _) [] (c .refused .ensures ∙ sym (gives-11 (elementsLent (a .form) (a .crest) (a .amendment)) (a .q) (sym (frame-tested f) ∙ not-true _ (c .before .if1 .taken))))
 
 walk-requires : tie.Need-walk-requires
-walk-requires c κs = let a = c .before .before .before .before .before .before in (a .pre, in-frame (a .args .q) (inside c))
+walk-requires c κs = let a = c .before .before .before .before .before .before in (a .pre, framed (a .args .q) (inside c))
 
 refused-requires-2 : tie.Need-refused-requires-2
 refused-requires-2 c κs = search needs
@@ -159,7 +156,7 @@ to-point-requires c κs =
     let w = c .before .before .before in
     let a = start w in (
       subst Placeable (sym (c .placed-at .ensures)) (station-placeable (es w) (c .before .before .before .walk .result .at) (a .pre .alignment .each) (at-within w)),
-      in-frame (q w) (inside (w .before)),
+      framed (q w) (inside (w .before)),
     )
 
 before-start-requires : tie.Need-before-start-requires

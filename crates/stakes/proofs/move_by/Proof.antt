@@ -19,7 +19,7 @@ module _ (c : tie.Start) where
   Γ =
       env (c .args .own .x ∷ c .args .own .y ∷ c .args .target .x ∷ c .args .target .y ∷ c .args .c ∷ c .args .s ∷ [])
       (frame ∷ frame ∷ frame ∷ frame ∷ ONE ∷ ONE ∷ [])
-      (c .pre .ownX, (c .pre .ownY, (c .pre .targetX, (c .pre .targetY, (c .pre .first, (c .pre .second, tt))))))
+      (c .pre .from .x, (c .pre .from .y, (c .pre .to .x, (c .pre .to .y, (c .pre .first, (c .pre .second, tt))))))
 
   abbrev dx : ℤ
   dx = c .args .target .x -ℤ c .args .own .x

@@ -14,7 +14,7 @@ use Rattle.model.specs.Judged.{residualOf, offsetOf, minus}
 use Rattle.rounding.specs.Rounded.{Summable}
 use Rattle.elements.specs.declared.Placement.{Placement}
 use Rattle.elements.specs.Extent.{widestPosition, Placeable}
-use Rattle.walk.specs.Search.{InFrame}
+use Rattle.plane.specs.Frame.{InFrame}
 use Rattle.nearest.specs.Sides.{sidesOf}
 use Rattle.nearest.proofs.sides.to_point.Statement.{statement}
 use Rattle.nearest.proofs.sides.to_point.Tie as tie

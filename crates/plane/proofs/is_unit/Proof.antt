@@ -1,4 +1,4 @@
--- `records::is_unit` meets its contract: a component above 2^31 is too long for a unit, and else the sum of the squares fits and is compared.
+-- `plane::is_unit` meets its contract: a component above 2^31 is too long for a unit, and else the sum of the squares fits and is compared.
 use mathlib.Core.Path.{_≡_, sym, ap, _∙_}
 use native.Mathlib.Omega.{arith}
 use borrow.Author.Needs.{needs}
@@ -6,9 +6,9 @@ use lib.IntN.{natAbs}
 use mir.Facts.{toZ-ofZ}
 use Rattle.integers.specs.Plane.{squared}
 use Rattle.integers.proofs.Abs.{square-≤, square-<}
-use Rattle.records.proofs.Unit.{too-long, not-too-long}
-use Rattle.records.proofs.is_unit.Statement.{statement}
-use Rattle.records.proofs.is_unit.Tie as tie
+use Rattle.plane.proofs.Unit.{too-long, not-too-long}
+use Rattle.plane.proofs.is_unit.Statement.{statement}
+use Rattle.plane.proofs.is_unit.Tie as tie
 
 sizes : (c : tie.After-magnitude2) → let a = c .before .before .args in (c .before .magnitude .result ≡ natAbs (a .c)) × (c .magnitude2 .result ≡ natAbs (a .s))
 sizes c =

@@ -1,5 +1,5 @@
 -- A direction is a unit where the sum of its components' squares lies between two numbers, 2^60 less and more 2^31.
-use Prim.Native.Nat.{ℕ, _+_, _-_, _≤_, _<_, _^_}
+use Prim.Native.Nat.{ℕ, _+_, _-_, _≤_, _<_}
 use mathlib.Core.Bool.{false, _&&_}
 use mathlib.Core.Path.{_≡_}
 use native.Mathlib.Omega.{arith}
@@ -7,10 +7,10 @@ use borrow.Author.Tests.{le-leb, lt-leb}
 use lib.Dec.{leb}
 use lib.IntN.{ℤ, pos, natAbs, _-ℤ_}
 use Rattle.integers.specs.Plane.{squared}
-use Rattle.model.specs.Acceptance.{isUnit}
+use Rattle.integers.proofs.Tests.{le-test, both-tests, same-test}
 use Rattle.integers.proofs.Order.{difference, parts}
 use Rattle.integers.proofs.Plane.{squared-is}
-use Rattle.records.proofs.Tests.{le-test, both-tests, same-test}
+use Rattle.model.specs.Acceptance.{unitSquare, unitSlack, isUnit}
 
 distance : (n k : ℕ) → natAbs (pos n -ℤ pos k) ≡ (n - k) + (k - n)
 distance n k = omega (arith, difference (pos n) (pos k), parts (pos n -ℤ pos k))
@@ -22,12 +22,12 @@ distance-test n k h i =
     let one = le-test (natAbs (pos n -ℤ pos k)) h in
     same-test _ _ (λ t. let l = one .0 t in two .1 (omega arith, omega arith), λ t. let l = two .0 t in one .1 (omega arith))
 
-unit-squares : (c s : ℤ) → isUnit c s ≡ (leb (squared c s) 1152921506754330624 && leb 1152921502459363328 (squared c s))
+unit-squares : (c s : ℤ) → isUnit c s ≡ (leb (squared c s) (unitSquare + unitSlack) && leb (unitSquare - unitSlack) (squared c s))
 unfolding isUnit
-unit-squares c s = rw (← squared-is c s) (distance-test (squared c s) (2 ^ 60) (2 ^ 31) (omega arith))
+unit-squares c s = rw (← squared-is c s) (distance-test (squared c s) unitSquare unitSlack (omega arith))
 
-pub too-long : (c s : ℤ) → 1152921506754330624 < squared c s → isUnit c s ≡ false
-too-long c s h = rw (unit-squares c s, lt-leb (squared c s) 1152921506754330624 h)
+pub too-long : (c s : ℤ) → unitSquare + unitSlack < squared c s → isUnit c s ≡ false
+too-long c s h = rw (unit-squares c s, lt-leb (squared c s) (unitSquare + unitSlack) h)
 
-pub not-too-long : (c s : ℤ) → squared c s ≤ 1152921506754330624 → isUnit c s ≡ leb 1152921502459363328 (squared c s)
-not-too-long c s h = rw (unit-squares c s, le-leb (squared c s) 1152921506754330624 h)
+pub not-too-long : (c s : ℤ) → squared c s ≤ unitSquare + unitSlack → isUnit c s ≡ leb (unitSquare - unitSlack) (squared c s)
+not-too-long c s h = rw (unit-squares c s, le-leb (squared c s) (unitSquare + unitSlack) h)

@@ -1,12 +1,12 @@
--- `records::in_frame` meets its contract: the code makes the two tests.
+-- `plane::in_frame` meets its contract: the code makes the two tests.
 use mathlib.Core.Path.{ap, _∙_}
 use borrow.Author.Tests.{le-leb, lt-leb}
 use borrow.Author.Needs.{needs}
 use lib.IntN.{natAbs}
 use mir.Facts.{toZ-ofZ}
 use Rattle.model.specs.Acceptance.{inFrame}
-use Rattle.records.proofs.in_frame.Statement.{statement}
-use Rattle.records.proofs.in_frame.Tie as tie
+use Rattle.plane.proofs.in_frame.Statement.{statement}
+use Rattle.plane.proofs.in_frame.Tie as tie
 
 magnitude-requires : tie.Need-magnitude-requires
 magnitude-requires c κs = search needs

@@ -1,0 +1,3 @@
+-- The laws of the two tests.
+pub mod Frame
+pub mod Unit

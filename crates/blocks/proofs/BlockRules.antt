@@ -1,40 +1,21 @@
 -- The two rules of a block, as facts: its sums are the stored ones, and its fields are those of block b of n. Each test of the rules says one of these facts.
-use Prim.Native.Nat.{ℕ, zero, suc, _+_, _-_, _*_, _≤_, _<_}
+use Prim.Native.Nat.{ℕ, _+_, _-_, _*_, _≤_, _<_}
 use mathlib.Core.Bool.{Bool, true, false, cond, _&&_, and-eq-true-iff}
-use mathlib.Core.List.{List, [], _∷_}
+use mathlib.Core.List.{List}
 use mathlib.Core.Logic.{_↔_}
 use mathlib.Core.Path.{_≡_, refl}
 use native.Mathlib.Omega.{arith}
 use lib.Dec.{leb, eqb}
-use lib.ListN.{length, take, replicate}
+use lib.ListN.{length, take}
 use lib.Seq.{length-take-le}
 use borrow.Author.Tests.{eqb-true, eq-eqb, ne-eqb}
 use Rattle.model.specs.Records.{u16At, u32At, part, allZero, sumA, sumB, usedIn}
 use Rattle.model.specs.Writer.{block}
 use Rattle.model.specs.Acceptance.{sumsAgree, useFits, fieldsFit}
-use Rattle.blocks.proofs.Bytes.{AllBytes}
 use Rattle.integers.proofs.Tests.{eq-test, le-test, both-tests}
-use Rattle.blocks.proofs.Parts.{length-part}
+use Rattle.fields.proofs.Bytes.{AllBytes}
+use Rattle.fields.proofs.Zeros.{part-zero}
 use Rattle.blocks.proofs.OneBlock.{Fields, fields-block}
-
--- ---- zero bytes
-
-allZero→zeros : (l : List ℕ) → allZero l ≡ true → l ≡ replicate (length l) 0
-unfolding allZero
-allZero→zeros [] e = refl
-allZero→zeros (b ∷ l) e =
-    let h = and-eq-true-iff (eqb b 0) (allZero l) .0 e in
-    let z = eqb-true b 0 (h .0) in
-    let r = allZero→zeros l (h .1) in
-    cc
-
-zeros→allZero : (n : ℕ) → allZero (replicate n 0) ≡ true
-unfolding allZero
-zeros→allZero zero = refl
-zeros→allZero (suc n) = zeros→allZero n
-
-pub part-zero : (l : List ℕ) (at n : ℕ) → at + n ≤ length l → (allZero (part l at n) ≡ true) ↔ (part l at n ≡ replicate n 0)
-part-zero l at n h = (λ e. rw (length-part l at n h) at (allZero→zeros (part l at n) e), λ e. rw e (zeros→allZero n))
 
 -- ---- records in use
 

@@ -8,7 +8,7 @@ use native.Mathlib.Omega.{arith}
 use lib.ListN.{length, drop}
 use lib.Seq.{getD-drop, drop-cons}
 use Rattle.model.specs.Records.{byteAt, u16At, u32At, u16Bytes, u32Bytes}
-use Rattle.blocks.proofs.Bytes.{AllBytes}
+use Rattle.fields.proofs.Bytes.{AllBytes}
 
 -- ---- bytes at a place and what l goes on with there
 

@@ -1,10 +1,6 @@
--- One block of a crest file: its bytes, its fields and its rules.
-pub mod Bytes
+-- One block of a crest file: its fields, its sums and its rules, and how it is put into lent room.
 pub mod Fields
-pub mod Parts
 pub mod Summed
 pub mod OneBlock
 pub mod BlockRules
--- What is written into lent room.
-pub mod Puts
 pub mod PutBlock

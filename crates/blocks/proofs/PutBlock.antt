@@ -9,7 +9,7 @@ use lib.Seq.{take-all, take-at}
 use Rattle.model.specs.Records.{put, u16Bytes, u32Bytes, sumA, sumB, countOf}
 use Rattle.model.specs.Writer.{blockBody, withSums, block}
 use Rattle.blocks.proofs.OneBlock.{same-sums, length-body}
-use Rattle.blocks.proofs.Puts.{put-whole, put-then}
+use Rattle.fields.proofs.Puts.{put-whole, put-then}
 
 -- ---- the body, field by field
 

@@ -7,7 +7,7 @@ use native.Mathlib.Omega.{arith}
 use lib.ListN.{length, take, drop, drop-of-length-le, length-take}
 use lib.Seq.{getD-take, length-take-le}
 use Rattle.model.specs.Records.{byteAt, sumOf, weightedFrom}
-use Rattle.records.proofs.Rest.{first-rest}
+use Rattle.fields.proofs.Rest.{first-rest}
 
 sum-rest : (l : List ℕ) (i : ℕ) → i < length l → sumOf (drop i l) ≡ byteAt l i + sumOf (drop (i + 1) l)
 unfolding sumOf

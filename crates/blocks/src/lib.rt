@@ -1,23 +1,15 @@
-// One block of a crest file: its sums and its fields, a part of lent bytes, and the block written into lent room.
+// One block of a crest file: its sums and its fields, and the block written into lent room.
+use fields::parts::all_zero;
+use fields::parts::clear_at;
+use fields::parts::copy_at;
 use model::layout;
-use records::all_zero;
 ghost use mathlib.Core.List.{_++_};
 ghost use mathlib.Core.Path.{_≡_};
-ghost use Prim.Native.Nat.{_+_, _≤_, _<_};
-ghost use lib.ListN.{length, replicate};
-ghost use denote.Ref.{ptr};
-ghost use Rattle.model.specs.Records.{blockSize, recordsEnd, sumsAt, part, put, u16Bytes, sumA, sumB};
+ghost use Prim.Native.Nat.{_≤_, _<_};
+ghost use lib.ListN.{length};
+ghost use Rattle.model.specs.Records.{blockSize, recordsEnd, sumsAt, put, u16Bytes, sumA, sumB};
 ghost use Rattle.model.specs.Acceptance.{sumsAgree, useFits, fieldsFit};
 ghost use Rattle.model.specs.Writer.{blockBody, block};
-
-// n bytes from `at` on, where they lie: a pointer is a block of memory and an offset in it.
-pub fn part_at(bytes: &[u8], at: usize, n: usize) -> &[u8]
-    requires { ⌜ at + n ≤ length (now bytes) ⌝ }
-    ensures { λ r. ⌜ now r ≡ part (now (bytes .entry)) at n ⌝ }
-    ensures place { λ r. ⌜ ptr r ≡ (ptr (bytes .entry) .0, at + ptr (bytes .entry) .1) ⌝ }
-{
-    &bytes[at..at + n]
-}
 
 // The two sums of a block, modulo 65,536.
 struct Sums {
@@ -97,30 +89,6 @@ pub fn fields_fit(n: usize, b: usize, block: &[u8]) -> bool
         return false;
     }
     all_zero(&block[layout::RECORD_SIZE * used..layout::FIELDS_AT])
-}
-
-// Bytes copied over the room's from `at` on.
-pub fn copy_at(room: &mut [u8], at: usize, bytes: &[u8])
-    requires { ⌜ at + length (now bytes) ≤ length (now room) ⌝ }
-    ensures { λ _. ⌜ now (room .exit) ≡ put (now (room .entry)) at (now (bytes .entry)) ⌝ }
-{
-    let mut i = 0;
-    while i < bytes.len() {
-        room[at + i] = bytes[i];
-        i += 1;
-    }
-}
-
-// n zeros from `at` on.
-fn clear_at(room: &mut [u8], at: usize, n: usize)
-    requires { ⌜ at + n ≤ length (now room) ⌝ }
-    ensures { λ _. ⌜ now (room .exit) ≡ put (now (room .entry)) at (replicate n 0) ⌝ }
-{
-    let mut i = 0;
-    while i < n {
-        room[at + i] = 0;
-        i += 1;
-    }
 }
 
 // Bytes 0 to 507 of block b: its records, zeros up to 480, the block's fields, zeros.

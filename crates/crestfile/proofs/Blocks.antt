@@ -10,7 +10,7 @@ use lib.Seq.{length-take-le, take-at, drop-at, take-all, take-append-le}
 use Rattle.model.specs.Records.{usedIn, blockOf, usedBytes}
 use Rattle.model.specs.Writer.{block, blocksFrom}
 use Rattle.model.specs.Acceptance.{useFits}
-use Rattle.blocks.proofs.Bytes.{AllBytes, front-bytes, back-bytes}
+use Rattle.fields.proofs.Bytes.{AllBytes, front-bytes, back-bytes}
 use Rattle.blocks.proofs.OneBlock.{Fields, block-fields, block-length}
 use Rattle.blocks.proofs.BlockRules.{Sound, sound-uses, sound-block, fields→sound, last-uses, earlier-uses, uses-few}
 use Rattle.crestfile.proofs.Seams.{u16-before, blockOf-first, blockOf-later}

@@ -11,7 +11,7 @@ use Rattle.model.specs.Records.{part, recordBytes, recordStart, countOf, record
 use Rattle.model.specs.Crest.{checkOf, fileCrest}
 use Rattle.model.specs.Refusals.{verdict}
 use Rattle.model.specs.Acceptance.{blocksRules}
-use Rattle.blocks.proofs.Parts.{length-part}
+use Rattle.fields.proofs.PartsOf.{length-part}
 use Rattle.crestfile.proofs.Seams.{part-before, part-after}
 use Rattle.crestfile.proofs.Blocks.{Blocks, last, next, last-in-use, file-length, records-count}
 use Rattle.crestfile.proofs.Crest.{blocks→crest, accepted→blocks}

@@ -9,7 +9,7 @@ use lib.Seq.{drop-drop, take-all, take-length}
 use Rattle.model.specs.Records.{put}
 use Rattle.model.specs.Writer.{block, blocksFrom, blocksNeeded, fileOf}
 use Rattle.blocks.proofs.OneBlock.{block-length}
-use Rattle.blocks.proofs.Puts.{put-none, put-length, put-then}
+use Rattle.fields.proofs.Puts.{put-none, put-length, put-then}
 
 take-min : (n : ℕ) (l : List ℕ) → take (min n (length l)) l ≡ take n l
 take-min n l = go (decLe n (length l))

@@ -1,7 +1,7 @@
 // The refusals of a crest file by its length and its blocks, in their order; how many records are in it, and where each starts.
 use blocks::fields_fit;
-use blocks::part_at;
 use blocks::sums_agree;
+use fields::parts::part_at;
 use model::Outcome;
 use model::layout::BLOCK_SIZE;
 use model::layout::FOUR_BLOCKS;

@@ -24,7 +24,7 @@ use Rattle.model.specs.Answers.{readerOutcome, spanIf, readerSpan, readerPart}
 use Rattle.model.proofs.Verdict.{verdict-after}
 use Rattle.elements.proofs.Bound as bound
 use Rattle.stations.proofs.StationAt.{at-reachable}
-use Rattle.blocks.proofs.Bytes.{AllBytes}
+use Rattle.fields.proofs.Bytes.{AllBytes}
 use Rattle.demands.proofs.WrittenThenRead as writing
 use Rattle.crestfile.proofs.WriterRules.{writer-done}
 use Rattle.crestfile.proofs.Part.{record-part}

@@ -21,8 +21,8 @@ use Rattle.model.specs.Records.{part, u32Bytes, recordBytes, recordStart, count
 use Rattle.model.specs.Refusals.{Rule, forEach}
 use Rattle.model.specs.Acceptance.{isDamaged, isLater, kindIn, elementOf, reservedZero, recordRules, elementAt, eachRecord, recordsRules, elementsFrom, elementsOf, crestElements}
 use Rattle.model.proofs.Verdict.{AllHold, more}
-use Rattle.blocks.proofs.Bytes.{AllBytes, part-bytes}
-use Rattle.blocks.proofs.BlockRules.{part-zero}
+use Rattle.fields.proofs.Bytes.{AllBytes, part-bytes}
+use Rattle.fields.proofs.Zeros.{part-zero}
 use Rattle.crestfile.proofs.ForEach.{append-all, all→each}
 use Rattle.crestfile.proofs.Crest.{accepted→crest, count-fits, crest-count}
 use Rattle.crestfile.proofs.Part.{record-part}

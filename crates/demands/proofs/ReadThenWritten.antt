@@ -10,7 +10,7 @@ use Rattle.model.specs.Crest.{checkOf, fileCrest}
 use Rattle.model.specs.Refusals.{verdict}
 use Rattle.model.specs.Writer.{blocksFrom, fileOf, roomAfter, written}
 use Rattle.model.proofs.Verdict.{more, all→done}
-use Rattle.blocks.proofs.Bytes.{AllBytes}
+use Rattle.fields.proofs.Bytes.{AllBytes}
 use Rattle.crestfile.proofs.WriterRules.{rulesButRoom, writer-done}
 use Rattle.demands.proofs.WrittenThenRead.{written-then-read}
 use Rattle.crestfile.proofs.Blocks.{rewritten}

@@ -10,7 +10,7 @@ use lib.ListN.{length, take, drop, set, length-set}
 use lib.Seq.{length-take-le, take-set-lt, take-set-le, getD-take, getD-drop, getD-set-same, getD-set-other}
 use Rattle.model.specs.Records.{byteAt, u16At, sumOf, sumA, sumB}
 use Rattle.model.specs.Acceptance.{sumsAgree}
-use Rattle.blocks.proofs.Bytes.{AllBytes, set-bytes}
+use Rattle.fields.proofs.Bytes.{AllBytes, set-bytes}
 use Rattle.blocks.proofs.OneBlock.{same-sums, stored-sums}
 use Rattle.blocks.proofs.BlockRules.{sums-agree}
 

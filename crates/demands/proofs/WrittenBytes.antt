@@ -6,7 +6,7 @@ use native.Mathlib.Omega.{arith}
 use lib.ListN.{length, take, drop, replicate}
 use Rattle.model.specs.Records.{byteAt, u16Bytes, u32Bytes, sumA, sumB, countOf}
 use Rattle.model.specs.Writer.{blockBody, withSums, block, blocksFrom, blocksNeeded, fileOf}
-use Rattle.blocks.proofs.Bytes.{AllBytes, part-bytes, drop-bytes}
+use Rattle.fields.proofs.Bytes.{AllBytes, part-bytes, drop-bytes}
 
 none-bytes : AllBytes []
 none-bytes = record { below = λ i. omega arith }

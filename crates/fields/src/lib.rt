@@ -1,5 +1,6 @@
-// Little-endian fields of lent bytes.
+// Lent bytes: their little-endian fields, and their parts.
 pub mod eight;
+pub mod parts;
 
 ghost use mathlib.Core.Path.{_≡_};
 ghost use Prim.Native.Nat.{_+_, _≤_, _<_};

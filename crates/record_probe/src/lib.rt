@@ -1,8 +1,8 @@
 // A record of a crest file for tools: its bytes, copied.
 use alignment::part::record_outcome;
 use alignment::part::record_part;
-use blocks::copy_at;
 use codes::code_of;
+use fields::parts::copy_at;
 use model::Outcome;
 use model::layout;
 use model::refusals;

@@ -1,4 +1,5 @@
 // One record of a crest: its element, and its refusals.
+use fields::parts::all_zero;
 use integers::magnitude;
 use model::Element;
 use model::Kind;
@@ -19,24 +20,10 @@ ghost use mathlib.Core.Bool.{_&&_};
 ghost use lib.Dec.{leb};
 ghost use lib.ListN.{length};
 ghost use Rattle.model.specs.Kinds.{decide};
-ghost use Rattle.model.specs.Records.{recordSize, i32At, allZero};
+ghost use Rattle.model.specs.Records.{recordSize, i32At};
 ghost use Rattle.model.specs.Refusals.{verdict};
 ghost use Rattle.model.specs.Acceptance.{longestElement, kindIn, elementOf, reservedZero, radiusGood, rangesGood, recordRules};
 ghost use Rattle.model.specs.Answers.{paperIf, paperOfOutcome};
-
-// Whether all bytes are zero.
-pub fn all_zero(s: &[u8]) -> bool
-    ensures { λ r. ⌜ r ≡ allZero (now (s .entry)) ⌝ }
-{
-    let mut i = 0;
-    while i < s.len() {
-        if s[i] != 0 {
-            return false;
-        }
-        i += 1;
-    }
-    true
-}
 
 // Whether x is from low to high.
 fn between(low: u64, x: u64, high: u64) -> bool

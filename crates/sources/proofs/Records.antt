@@ -8,7 +8,7 @@ use lib.ListN.{length}
 use Rattle.model.specs.Records.{recordSize, mostRecords, part, recordOf}
 use Rattle.model.specs.Writer.{countFits}
 use Rattle.model.proofs.Verdict.{done→all}
-use Rattle.blocks.proofs.Parts.{length-part}
+use Rattle.fields.proofs.PartsOf.{length-part}
 use Rattle.crestfile.proofs.ForEach.{holds-one}
 use Rattle.crestfile.proofs.Crest.{blocks→crest, count-fits, crest-count}
 use Rattle.crestfile.proofs.Part.{record-within}

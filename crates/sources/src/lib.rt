@@ -1,9 +1,9 @@
 // A crest as its lent bytes and how to read them. Records are read where they lie: only the forms know where that is.
-use blocks::part_at;
 use crestfile::check::check_blocks;
 use crestfile::check::record_count;
 use crestfile::check::record_start;
 use crestfile::write::count_fits;
+use fields::parts::part_at;
 use model::Element;
 use model::Outcome;
 use model::layout::RECORD_SIZE;

@@ -4,7 +4,7 @@ use mathlib.Core.Path.{refl, ap, ap₂, _∙_}
 use native.Mathlib.Omega.{arith}
 use borrow.Author.Needs.{needs}
 use Rattle.model.specs.Records.{put, u16Bytes}
-use Rattle.blocks.proofs.Puts.{put-then}
+use Rattle.fields.proofs.Puts.{put-then}
 use Rattle.blocks.proofs.write_sums.Statement.{statement}
 use Rattle.blocks.proofs.write_sums.Tie as tie
 

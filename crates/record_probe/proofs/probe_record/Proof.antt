@@ -9,7 +9,7 @@ use borrow.Author.Needs.{needs}
 use Rattle.model.specs.declared.Outcome.the-variants.{Done}
 use Rattle.model.specs.Answers.{Span, readerOutcome}
 use Rattle.alignment.proofs.PartOrders.{span-done}
-use Rattle.blocks.proofs.Puts.{put-whole}
+use Rattle.fields.proofs.Puts.{put-whole}
 use Rattle.record_probe.proofs.Cases.{refusal-small, other-room, taken, refused}
 use Rattle.record_probe.proofs.probe_record.Statement.{statement}
 use Rattle.record_probe.proofs.probe_record.Tie as tie

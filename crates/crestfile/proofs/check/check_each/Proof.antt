@@ -6,7 +6,7 @@ use native.Mathlib.Omega.{arith}
 use borrow.Author.Needs.{needs}
 use Rattle.model.specs.Records.{blockCount, blockOf}
 use Rattle.model.specs.Refusals.{Rule, verdict}
-use Rattle.blocks.proofs.Parts.{length-part}
+use Rattle.fields.proofs.PartsOf.{length-part}
 use Rattle.crestfile.specs.declared.check.BlockCheck.{BlockCheck}
 use Rattle.crestfile.specs.BlockChecks.{blockRules, eachBlock}
 use Rattle.crestfile.proofs.Orders.{Left, left-all, left-next, left-refused, left-none}

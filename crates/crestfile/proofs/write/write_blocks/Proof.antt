@@ -6,9 +6,9 @@ use borrow.Author.Needs.{needs}
 use lib.ListN.{length, length-take}
 use Rattle.model.specs.Records.{put}
 use Rattle.model.specs.Writer.{block}
-use Rattle.blocks.proofs.Parts.{lent-length}
+use Rattle.fields.proofs.PartsOf.{lent-length}
 use Rattle.crestfile.proofs.Crest.{count-fits}
-use Rattle.blocks.proofs.Puts.{lent-back}
+use Rattle.fields.proofs.Puts.{lent-back}
 use Rattle.crestfile.proofs.PutBlocks.{Written, none-written, one-more-written, all-written, block-part}
 use Rattle.crestfile.proofs.write.write_blocks.Statement.{statement}
 use Rattle.crestfile.proofs.write.write_blocks.Tie as tie

@@ -1,12 +1,12 @@
--- `blocks::clear_at` meets its contract. The loop's invariant: `i` zeros are put.
+-- `fields::parts::clear_at` meets its contract. The loop's invariant: `i` zeros are put.
 use Prim.Native.Nat.{_+_, _-_, _≤_}
 use mathlib.Core.Path.{_≡_, refl, sym, ap, _∙_}
 use native.Mathlib.Omega.{arith}
 use lib.ListN.{length, replicate, set, length-set}
 use Rattle.model.specs.Records.{put}
-use Rattle.blocks.proofs.Puts.{put-none, cleared-more}
-use Rattle.blocks.proofs.clear_at.Statement.{statement}
-use Rattle.blocks.proofs.clear_at.Tie as tie
+use Rattle.fields.proofs.Puts.{put-none, cleared-more}
+use Rattle.fields.proofs.parts.clear_at.Statement.{statement}
+use Rattle.fields.proofs.parts.clear_at.Tie as tie
 
 abbrev Inv-loop : tie.InvT-loop
 Inv-loop room₀ at n i₀ room i = (i ≤ n) × (length room ≡ length room₀) × (room ≡ put room₀ at (replicate i 0))

@@ -1,12 +1,12 @@
--- `records::all_zero` meets its contract. The loop's invariant: the bytes are all zero exactly when those from `i` on are.
+-- `fields::parts::all_zero` meets its contract. The loop's invariant: the bytes are all zero exactly when those from `i` on are.
 use Prim.Native.Nat.{_≤_, _-_}
 use mathlib.Core.Path.{_≡_, refl, sym, _∙_}
 use native.Mathlib.Omega.{arith}
 use lib.ListN.{length, drop}
 use Rattle.model.specs.Records.{allZero}
-use Rattle.records.proofs.Rest.{zero-byte, nonzero-byte, no-byte}
-use Rattle.records.proofs.all_zero.Statement.{statement}
-use Rattle.records.proofs.all_zero.Tie as tie
+use Rattle.fields.proofs.Zeros.{zero-byte, nonzero-byte, no-byte}
+use Rattle.fields.proofs.parts.all_zero.Statement.{statement}
+use Rattle.fields.proofs.parts.all_zero.Tie as tie
 
 abbrev Inv-loop : tie.InvT-loop
 Inv-loop s i₀ i = (i ≤ length s) × (allZero s ≡ allZero (drop i s))

@@ -1,9 +1,9 @@
--- `blocks::part_at` meets its contract: the bytes from `at` to `at + n` are n bytes from `at` on.
+-- `fields::parts::part_at` meets its contract: the bytes from `at` to `at + n` are n bytes from `at` on.
 use mathlib.Core.Path.{refl}
 use borrow.Author.Needs.{needs}
-use Rattle.blocks.proofs.Parts.{lent-part}
-use Rattle.blocks.proofs.part_at.Statement.{statement}
-use Rattle.blocks.proofs.part_at.Tie as tie
+use Rattle.fields.proofs.PartsOf.{lent-part}
+use Rattle.fields.proofs.parts.part_at.Statement.{statement}
+use Rattle.fields.proofs.parts.part_at.Tie as tie
 
 add-result : tie.Need-add-result
 add-result c = search needs

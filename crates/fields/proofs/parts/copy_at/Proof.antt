@@ -1,13 +1,13 @@
--- `blocks::copy_at` meets its contract. The loop's invariant: the first `i` bytes are put.
+-- `fields::parts::copy_at` meets its contract. The loop's invariant: the first `i` bytes are put.
 use Prim.Native.Nat.{_+_, _-_, _≤_}
 use mathlib.Core.Path.{_≡_, refl, sym, ap, _∙_}
 use native.Mathlib.Omega.{arith}
 use lib.ListN.{length, take, set, length-set}
 use lib.Seq.{take-all}
 use Rattle.model.specs.Records.{put, byteAt}
-use Rattle.blocks.proofs.Puts.{put-none, copied-more}
-use Rattle.blocks.proofs.copy_at.Statement.{statement}
-use Rattle.blocks.proofs.copy_at.Tie as tie
+use Rattle.fields.proofs.Puts.{put-none, copied-more}
+use Rattle.fields.proofs.parts.copy_at.Statement.{statement}
+use Rattle.fields.proofs.parts.copy_at.Tie as tie
 
 abbrev Inv-loop : tie.InvT-loop
 Inv-loop room₀ at bytes i₀ room i = (i ≤ length bytes) × (length room ≡ length room₀) × (room ≡ put room₀ at (take i bytes))

@@ -2,7 +2,7 @@
 use crate::check::check;
 use model::Outcome;
 use model::refusals;
-use records::refused;
+use model::refused;
 use sources::Form;
 use sources::count_in;
 use sources::record_in;

@@ -5,7 +5,7 @@ use crestfile::write::write_blocks;
 use model::Outcome;
 use model::layout::BLOCK_SIZE;
 use model::refusals;
-use records::refused;
+use model::refused;
 use sources::Form;
 ghost use mathlib.Core.List.{[]};
 ghost use mathlib.Core.Path.{_≡_};

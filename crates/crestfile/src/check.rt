@@ -11,7 +11,7 @@ use model::layout::THREE_BLOCKS;
 use model::layout::TWO_BLOCKS;
 use model::layout::USED_AT;
 use model::refusals;
-use records::refused;
+use model::refused;
 ghost use mathlib.Core.List.{[], _∷_};
 ghost use mathlib.Core.Path.{_≡_};
 ghost use Prim.Native.Nat.{_*_, _≤_, _<_};

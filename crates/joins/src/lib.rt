@@ -5,7 +5,7 @@ use model::Outcome;
 use model::Point;
 use model::limits;
 use model::refusals;
-use records::refused;
+use model::refused;
 use sources::Form;
 use sources::count_in;
 use sources::element_in;

@@ -1,7 +1,9 @@
 // The types of the crest library, what a kind byte says, and document 01's numbers under their names: layout, limits, refusals,
 // units. Every definition of document 01 over them is in specs/.
+ghost use mathlib.Core.List.{[]};
 ghost use mathlib.Core.Path.{_≡_};
 ghost use Rattle.model.specs.Kinds.{decide, shapeOf, anchoredFar};
+ghost use Rattle.model.specs.Answers.{paperIf, paperOfOutcome};
 
 pub mod layout;
 pub mod limits;
@@ -96,6 +98,14 @@ pub struct Refusal {
 pub enum Outcome {
     Done,
     Refused(Refusal),
+}
+
+// The refusal with this number and place.
+pub fn refused(number: u32, place: u32) -> Outcome
+    ensures { λ o. ⌜ o ≡ Outcome.Refused (record { number = number; place = place }) ⌝ }
+    ensures paper { λ o. ⌜ paperOfOutcome o ≡ paperIf (Outcome.Refused (record { number = number; place = place })) [] ⌝ }
+{
+    Outcome::Refused(Refusal { number, place })
 }
 
 // Position and direction at a station.

@@ -12,8 +12,8 @@ ghost use Rattle.sources.specs.Sources.{elementsLent, SourceAccepted};
 
 mod sides;
 
-// The refusal with this number.
-fn refused(number: u32) -> Located
+// No station for a point: the refusal with this number.
+fn not_located(number: u32) -> Located
     ensures { λ r. ⌜ r ≡ Located.Refused (record { number = number; place = 0 }) ⌝ }
 {
     Located::Refused(Refusal { number, place: 0 })
@@ -26,18 +26,18 @@ pub fn locate(crest: &[u8], amendment: &[u8], form: Form, q: Point) -> Located
     ensures paper { λ r. ⌜ paperOfLocated r ≡ paperAfter [] (pointQuestion q (elementsLent form (crest .entry) (amendment .entry))) ⌝ }
 {
     if !plane::in_frame(q.x, q.y) {
-        return refused(refusals::OUTSIDE_FRAME);
+        return not_located(refusals::OUTSIDE_FRAME);
     }
     let w = walk::walk(crest, amendment, form, q);
     if w.best > limits::FARTHEST {
-        return refused(refusals::TOO_FAR);
+        return not_located(refusals::TOO_FAR);
     }
     let d = sides::to_point(stations::placed_at(crest, amendment, form, w.at), q);
     if sides::before_start(w.at, d.residual) {
-        return refused(refusals::BEFORE_START);
+        return not_located(refusals::BEFORE_START);
     }
     if sides::after_end(w.at, stations::total(crest, amendment, form), d.residual) {
-        return refused(refusals::AFTER_END);
+        return not_located(refusals::AFTER_END);
     }
     Located::At {
         station: w.at,

@@ -5,11 +5,11 @@ use model::Element;
 use model::Kind;
 use model::KindByte;
 use model::Outcome;
-use model::Refusal;
 use model::Shape;
 use model::layout;
 use model::limits;
 use model::refusals;
+use model::refused;
 use model::shape_of;
 use plane::in_frame;
 use plane::is_unit;
@@ -105,14 +105,6 @@ fn reserved_zero(rec: &[u8]) -> bool
         return false;
     }
     all_zero(&rec[layout::LAST_ZEROS_AT..layout::RECORD_SIZE])
-}
-
-// The refusal with this number and place.
-pub fn refused(number: u32, place: u32) -> Outcome
-    ensures { λ o. ⌜ o ≡ Outcome.Refused (record { number = number; place = place }) ⌝ }
-    ensures paper { λ o. ⌜ paperOfOutcome o ≡ paperIf (Outcome.Refused (record { number = number; place = place })) [] ⌝ }
-{
-    Outcome::Refused(Refusal { number, place })
 }
 
 // The refusals of record r by its own 32 bytes: kind, reserved bytes, ranges, direction.

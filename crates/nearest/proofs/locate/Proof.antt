@@ -128,25 +128,25 @@ answer-is p q r o = cc
 in-frame-requires : tie.Need-in-frame-requires
 in-frame-requires c κs = search needs
 
-refused-requires : tie.Need-refused-requires
-refused-requires c κs = search needs
+not-located-requires : tie.Need-not-located-requires
+not-located-requires c κs = search needs
 
 returns : tie.Need-returns
 returns c =
     let f = c .before .before in
     let a = f .before .before .before .before .before .args in
-    told (point-tells _ _) [] (c .refused .ensures ∙ sym (gives-11 (elementsLent (a .form) (a .crest) (a .amendment)) (a .q) (sym (frame-tested f) ∙ not-true _ (c .before .if1 .taken))))
+    told (point-tells _ _) [] (c .not-located .ensures ∙ sym (gives-11 (elementsLent (a .form) (a .crest) (a .amendment)) (a .q) (sym (frame-tested f) ∙ not-true _ (c .before .if1 .taken))))
 
 walk-requires : tie.Need-walk-requires
 walk-requires c κs = let a = c .before .before .before .before .before .before in (a .pre, framed (a .args .q) (inside c))
 
-refused-requires-2 : tie.Need-refused-requires-2
-refused-requires-2 c κs = search needs
+not-located-requires-2 : tie.Need-not-located-requires-2
+not-located-requires-2 c κs = search needs
 
 returns-2 : tie.Need-returns-2
 returns-2 c =
     let w = c .before .before .before in
-    told (point-tells _ _) [] (c .refused2 .ensures ∙ sym (gives-12 (es w) (q w) (inside (w .before)) (omega (arith, best-is w, c .before .if2 .taken))))
+    told (point-tells _ _) [] (c .not-located2 .ensures ∙ sym (gives-12 (es w) (q w) (inside (w .before)) (omega (arith, best-is w, c .before .if2 .taken))))
 
 placed-at-requires : tie.Need-placed-at-requires
 placed-at-requires c κs = let w = c .before .before in (start w .pre, at-within w)
@@ -162,15 +162,15 @@ to-point-requires c κs =
 before-start-requires : tie.Need-before-start-requires
 before-start-requires c κs = search needs
 
-refused-requires-3 : tie.Need-refused-requires-3
-refused-requires-3 c κs = search needs
+not-located-requires-3 : tie.Need-not-located-requires-3
+not-located-requires-3 c κs = search needs
 
 returns-3 : tie.Need-returns-3
 returns-3 c =
     let b = c .before .before in
     let d = b .before .before in
     let w = walked d in
-    told (point-tells _ _) [] (c .refused3 .ensures ∙ sym (gives-13 (es w) (q w) (inside (w .before)) (near (d .before .before)) (sym (before-tested b) ∙ c .before .if3 .taken)))
+    told (point-tells _ _) [] (c .not-located3 .ensures ∙ sym (gives-13 (es w) (q w) (inside (w .before)) (near (d .before .before)) (sym (before-tested b) ∙ c .before .if3 .taken)))
 
 total-requires : tie.Need-total-requires
 total-requires c κs = search needs
@@ -178,15 +178,15 @@ total-requires c κs = search needs
 after-end-requires : tie.Need-after-end-requires
 after-end-requires c κs = search needs
 
-refused-requires-4 : tie.Need-refused-requires-4
-refused-requires-4 c κs = search needs
+not-located-requires-4 : tie.Need-not-located-requires-4
+not-located-requires-4 c κs = search needs
 
 returns-4 : tie.Need-returns-4
 returns-4 c =
     let b = c .before .before in
     let d = b .before .before .before .before .before .before in
     let w = walked d in
-    told (point-tells _ _) [] (c .refused4 .ensures ∙ sym (gives-14 (es w) (q w) (inside (w .before)) (near (d .before .before)) (sym (after-tested b) ∙ c .before .if4 .taken)))
+    told (point-tells _ _) [] (c .not-located4 .ensures ∙ sym (gives-14 (es w) (q w) (inside (w .before)) (near (d .before .before)) (sym (after-tested b) ∙ c .before .if4 .taken)))
 
 returns-5 : tie.Need-returns-5
 returns-5 c =
@@ -210,18 +210,18 @@ locate-spec =
     tie.close
     (tie.spec
     in-frame-requires
-    refused-requires
+    not-located-requires
     returns
     walk-requires
-    refused-requires-2
+    not-located-requires-2
     returns-2
     placed-at-requires
     to-point-requires
     before-start-requires
-    refused-requires-3
+    not-located-requires-3
     returns-3
     total-requires
     after-end-requires
-    refused-requires-4
+    not-located-requires-4
     returns-4
     returns-5)

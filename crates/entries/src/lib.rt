@@ -13,7 +13,6 @@ use model::Point;
 use model::Reading;
 use model::ReadingAnswer;
 use model::Run;
-use readings::ask;
 pub use run::acknowledge;
 use sources::Form;
 use sources::no_amendment;
@@ -64,7 +63,7 @@ pub fn position(file: &[u8], s: i64) -> Placed
     ensures { λ r. ⌜ r ≡ placed (fileCrest (now (file .entry))) s ⌝ }
     ensures paper { λ r. ⌜ paperOfPlaced r ≡ askedPaper (stationQuestion s) (fileCrest (now (file .entry))) ⌝ }
 {
-    ask::position(file, no_amendment(file), Form::File, s)
+    questions::position(file, no_amendment(file), Form::File, s)
 }
 
 // Station and offset of a point.
@@ -72,7 +71,7 @@ pub fn locate(file: &[u8], q: Point) -> Located
     ensures { λ r. ⌜ r ≡ located (fileCrest (now (file .entry))) q ⌝ }
     ensures paper { λ r. ⌜ paperOfLocated r ≡ askedPaper (pointQuestion q) (fileCrest (now (file .entry))) ⌝ }
 {
-    ask::locate(file, no_amendment(file), Form::File, q)
+    questions::locate(file, no_amendment(file), Form::File, q)
 }
 
 // The point at a station and an offset.
@@ -80,7 +79,7 @@ pub fn inverse(file: &[u8], s: i64, w: i64) -> Inverse
     ensures { λ r. ⌜ r ≡ inverseIn (fileCrest (now (file .entry))) s w ⌝ }
     ensures paper { λ r. ⌜ paperOfInverse r ≡ askedPaper (placeQuestion s w) (fileCrest (now (file .entry))) ⌝ }
 {
-    ask::inverse(file, no_amendment(file), Form::File, s, w)
+    questions::inverse(file, no_amendment(file), Form::File, s, w)
 }
 
 // How far to move a stake.
@@ -96,7 +95,7 @@ pub fn answer(file: &[u8], reading: Reading) -> ReadingAnswer
     ensures { λ r. ⌜ r ≡ answerTo (fileCrest (now (file .entry))) reading ⌝ }
     ensures paper { λ r. ⌜ paperOfReading (valueCount reading) r ≡ askedPaper (readingQuestion reading) (fileCrest (now (file .entry))) ⌝ }
 {
-    ask::answer(file, no_amendment(file), Form::File, reading)
+    readings::answer(file, no_amendment(file), Form::File, reading)
 }
 
 // The display pair of it.

@@ -1,0 +1,2 @@
+-- A question asked of any bytes.
+pub mod Asked

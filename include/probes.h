@@ -1,5 +1,5 @@
-/* Calls for tests, tools and measurement: the static libraries of the crates `probes` and `record_probe`. They are no entries of
- * the product. What is lent, and what a call returns, are as in crest.h; 18 is for room of another size than named here. */
+/* Calls for tests, tools and measurement: the static library of the crate `probes`. They are no entries of the product. What is
+ * lent, and what a call returns, are as in crest.h; 18 is for room of another size than named here. */
 #ifndef PROBES_H
 #define PROBES_H
 

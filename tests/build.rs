@@ -8,7 +8,7 @@ fn main() {
     let here = PathBuf::from(env::var("CARGO_MANIFEST_DIR").expect("cargo gives the package's folder"));
     let libraries = env::var("CREST_LIBS").map_or_else(|_| here.join("../target/staticlib"), PathBuf::from);
     println!("cargo:rustc-link-search=native={}", libraries.display());
-    for name in ["crest", "probes", "record_probe"] {
+    for name in ["crest", "probes"] {
         let file = libraries.join(format!("lib{name}.a"));
         assert!(Path::new(&file).is_file(), "{} is missing: run rt staticlib {name}", file.display());
         println!("cargo:rerun-if-changed={}", file.display());

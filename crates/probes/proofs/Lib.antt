@@ -2,3 +2,4 @@
 pub mod Rooms
 pub mod Visited
 pub mod Sent
+pub mod RecordCases

@@ -6,16 +6,18 @@ use lib.ListN.{length}
 use lib.IntN.{ℤ}
 use Rattle.model.specs.declared.Element.{Element}
 use Rattle.model.specs.declared.Point.{Point}
+use Rattle.model.specs.declared.Outcome.{Outcome}
+use Rattle.model.specs.declared.Outcome.the-variants.{Done, Refused}
 use Rattle.model.specs.declared.Placed.{Placed}
 use Rattle.model.specs.declared.Placed.the-variants.{At as PlacedAt, Refused as PlacedRefused}
 use Rattle.model.specs.declared.Located.{Located}
 use Rattle.model.specs.declared.Located.the-variants.{At as LocatedAt, Refused as LocatedRefused}
 use Rattle.model.specs.declared.Inverse.{Inverse}
 use Rattle.model.specs.declared.Inverse.the-variants.{At as InverseAt, Refused as InverseRefused}
-use Rattle.model.specs.Records.{field, putAll, u32Bytes, i32Bytes}
-use Rattle.model.specs.Refusals.{rule₀, wrongRoom}
+use Rattle.model.specs.Records.{recordSize, field, putAll, u32Bytes, i32Bytes}
+use Rattle.model.specs.Refusals.{rule₀, orRefused, wrongRoom}
 use Rattle.model.specs.Crest.{Crest}
-use Rattle.model.specs.Answers.{PaperAnswer, code, Question, answerAfter, stationQuestion, paperOfPlaced, pointQuestion, paperOfLocated, placeQuestion, paperOfInverse}
+use Rattle.model.specs.Answers.{PaperAnswer, code, paperOfOutcome, readerOutcome, readerPart, Question, answerAfter, stationQuestion, paperOfPlaced, pointQuestion, paperOfLocated, placeQuestion, paperOfInverse}
 
 -- room for two numbers of 32 bits and for four, and where each lies
 abbrev pub twoSize : ℕ
@@ -73,3 +75,17 @@ inverseBytes (InverseRefused r) old = old
 
 abbrev pub inverseCall : Crest → ℤ → ℤ → List ℕ → ℕ × List ℕ
 inverseCall c s w room = callOf paperOfInverse inverseBytes twoSize (placeQuestion s w) c room
+
+-- ---- a record, copied
+
+-- it takes all of the room; a refusal leaves the room as it came
+unfoldable pub recordRoom : Outcome → List ℕ → List ℕ → List ℕ
+recordRoom Done this room = this
+recordRoom (Refused why) this room = room
+
+-- the reader's refusals, "station, offset or record number out of range" the last of them; and the part that it "hands back", copied
+unfoldable pub recordCall : List ℕ → ℕ → List ℕ → ℕ × List ℕ
+unfolding orRefused readerOutcome readerPart code paperOfOutcome recordRoom
+recordCall file r room =
+    let o = orRefused (eqb (length room) recordSize) wrongRoom 0 (readerOutcome file r) in
+    (code (paperOfOutcome o), recordRoom o (readerPart file r) room)

@@ -1,21 +1,26 @@
-// Calls for tests and tools: a crest's bytes, a question in numbers, and room for the answer.
+// Calls for tests and tools: a crest's bytes, a question in numbers, and room for the answer; and the bytes of a record, copied.
 use codes::code_of;
 use codes::point;
 use codes::put_two;
 use entries::inverse;
 use entries::locate;
 use entries::position;
+use entries::record_outcome;
+use entries::record_part;
+use fields::parts::copy_at;
 use model::Inverse;
 use model::Located;
+use model::Outcome;
 use model::Placed;
 use model::Refusal;
+use model::layout;
 use model::refusals;
 ghost use mathlib.Core.Path.{_≡_};
 ghost use lib.ListN.{length};
 ghost use lib.IntN.{pos};
 ghost use Rattle.model.specs.Crest.{fileCrest};
 ghost use Rattle.probes.specs.Replies.{fromPlaced, fromLocated, fromInverse, replyCode, replyBytes, Sendable};
-ghost use Rattle.probes.specs.Calls.{fourSize, positionCall, locateCall, inverseCall};
+ghost use Rattle.probes.specs.Calls.{fourSize, positionCall, locateCall, inverseCall, recordCall};
 
 // Room for two numbers of 32 bits and for four, and where the first and the third lie.
 const TWO_SIZE: usize = 8;
@@ -130,4 +135,21 @@ pub extern "C" fn probe_inverse(file: &[u8], station: u32, offset: i32, out: &mu
         from_inverse(inverse(file, station as i64, offset as i64)),
         out,
     )
+}
+
+// The 32 bytes of record r, counted from 0: 18 first, for room that is not 32 bytes; then the crest's own refusals; then 15.
+#[no_mangle]
+pub extern "C" fn probe_record(file: &[u8], r: u32, out: &mut [u8]) -> u32
+    ensures { λ n. ⌜ (n, now (out .exit)) ≡ recordCall (now (file .entry)) r (now (out .entry)) ⌝ }
+{
+    if out.len() != layout::RECORD_SIZE {
+        return refusals::WRONG_ROOM;
+    }
+    match record_outcome(file, r as usize) {
+        Outcome::Done => {
+            copy_at(out, 0, record_part(file, r as usize));
+            0
+        }
+        Outcome::Refused(why) => code_of(why),
+    }
 }

@@ -1,4 +1,4 @@
--- What the call comes to: 18 for room of another size; the record; the reader's refusal, which is one of the table's.
+-- What the call for a record comes to: 18 for room of another size; the record; the reader's refusal, which is one of the table's.
 use Prim.Native.Nat.{ℕ}
 use mathlib.Core.List.{List, [], _∷_}
 use mathlib.Core.Path.{_≡_, ap, _∙_, subst}
@@ -16,7 +16,7 @@ use Rattle.codes.specs.Codes.{Small}
 use Rattle.sources.proofs.Sound.{file-sound}
 use Rattle.crestfile.proofs.Placed.{none-placed}
 use Rattle.codes.proofs.Codes.{after-small, unplaced}
-use Rattle.record_probe.specs.Calls.{recordRoom, recordCall}
+use Rattle.probes.specs.Calls.{recordRoom, recordCall}
 
 module _ (file : List ℕ) (r : ℕ) where
   reader-small : Small (paperOfOutcome (readerOutcome file r))

@@ -1,4 +1,4 @@
--- `record_probe::probe_record` meets its contract: the room first, then what the reader comes to.
+-- `probes::probe_record` meets its contract: the room first, then what the reader comes to.
 use Prim.Native.Nat.{ℕ}
 use mathlib.Core.List.{List}
 use mathlib.Core.Path.{_≡_, sym, ap, _∙_}
@@ -10,9 +10,9 @@ use Rattle.model.specs.declared.Outcome.the-variants.{Done}
 use Rattle.model.specs.Answers.{Span, readerOutcome}
 use Rattle.alignment.proofs.PartOrders.{span-done}
 use Rattle.fields.proofs.Puts.{put-whole}
-use Rattle.record_probe.proofs.Cases.{refusal-small, other-room, taken, refused}
-use Rattle.record_probe.proofs.probe_record.Statement.{statement}
-use Rattle.record_probe.proofs.probe_record.Tie as tie
+use Rattle.probes.proofs.RecordCases.{refusal-small, other-room, taken, refused}
+use Rattle.probes.proofs.probe_record.Statement.{statement}
+use Rattle.probes.proofs.probe_record.Tie as tie
 
 returns : tie.Need-returns
 returns c = sym (other-room _ _ _ (c .if1 .taken))

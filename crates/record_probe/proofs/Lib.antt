@@ -1,2 +1,0 @@
--- What the call comes to, case by case.
-mod Cases

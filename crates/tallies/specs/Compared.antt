@@ -1,9 +1,18 @@
 -- The tallies of the program: a difference is counted, and cannot be lost.
 use Prim.Native.Nat.{ℕ, _+_, _%_, _^_}
 use mathlib.Core.Bool.{Bool, cond}
+use lib.Dec.{leb}
 use lib.ListN.{replicate, set, getD}
 use Rattle.tallies.specs.declared.Tally.{Tally}
 use Rattle.tallies.specs.declared.Tallies.{Tallies}
+
+-- the sorts that have a tally of their own, at their number: 1 to 5
+abbrev pub sorts : ℕ
+sorts = 5
+
+-- where the tally of a sort stands: at 0 for any other
+abbrev pub tallyOf : ℕ → ℕ
+tallyOf sort = cond (leb sort sorts) sort 0
 
 -- a count that is held in 64 bits, with one more
 abbrev pub oneMore : ℕ → ℕ
@@ -13,7 +22,7 @@ abbrev pub nothing : Tally
 nothing = record { done = 0; differ = 0 }
 
 abbrev pub nothingCompared : Tallies
-nothingCompared = record { of = replicate 6 nothing }
+nothingCompared = record { of = replicate (sorts + 1) nothing }
 
 -- one comparison more: whether both were the same
 unfoldable pub compared : Tally → Bool → Tally

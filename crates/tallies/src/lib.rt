@@ -1,14 +1,17 @@
 // How many comparisons are done and how many of them differ, for each sort of them.
 ghost use mathlib.Core.Path.{_≡_};
 ghost use Prim.Native.Nat.{_<_};
-ghost use Rattle.tallies.specs.Compared.{nothingCompared, compared, countedAt};
+ghost use Rattle.tallies.specs.Compared.{tallyOf, nothingCompared, compared, countedAt};
+
+// The sorts that have a tally of their own.
+const SORTS: u16 = 5;
 
 pub struct Tally {
     pub done: u64,
     pub differ: u64,
 }
 
-// The tallies of the sorts 1 to 5, each at its number, and at 0 that of all others.
+// The tallies of these sorts, each at its number, and at 0 that of all others.
 pub struct Tallies {
     pub of: [Tally; 6],
 }
@@ -23,9 +26,10 @@ pub fn none() -> Tallies
 
 // Where the tally of a sort stands.
 pub fn index(sort: u16) -> usize
+    ensures { λ r. ⌜ r ≡ tallyOf sort ⌝ }
     ensures { λ r. ⌜ r < 6 ⌝ }
 {
-    if sort < 6 { sort as usize } else { 0 }
+    if sort <= SORTS { sort as usize } else { 0 }
 }
 
 // One comparison more.

@@ -1,13 +1,18 @@
 // Calls on a run record, one after the other: a row's sort of call, the count of the run's bytes that are lent, the returned
 // value, two f64 numbers, and the run's bytes afterwards.
+use crate::said::Row;
 use crest::crest_acknowledge;
 use crest::crest_line_reading;
 use crest::crest_plane_reading;
 use fields::eight::float;
 use fields::eight::u64_at;
+ghost use mathlib.Core.Path.{_≡_};
+ghost use Rattle.comparisons.specs.Agreement.{callOf, runIs, callAgrees, runAfterCall};
 
 // What the call of a row returns; no call returns 2^32 - 1.
-fn value(row: &[u8; 64], crest: &[u8], run: &mut [u8]) -> u32 {
+fn value(row: &Row, crest: &[u8], run: &mut [u8]) -> u32
+    ensures { λ r. ⌜ (r, now (run .exit)) ≡ callOf (now (row .entry)) (now (crest .entry)) (now (run .entry)) ⌝ }
+{
     let one = float(u64_at(row, 8));
     let two = float(u64_at(row, 16));
     match row[0] {
@@ -19,7 +24,9 @@ fn value(row: &[u8; 64], crest: &[u8], run: &mut [u8]) -> u32 {
 }
 
 // Whether the run's 32 bytes are those of the row.
-fn same_run(row: &[u8; 64], run: &[u8]) -> bool {
+fn same_run(row: &Row, run: &[u8]) -> bool
+    ensures { λ r. ⌜ r ≡ runIs (now (row .entry)) (now (run .entry)) ⌝ }
+{
     if run.len() != 32 {
         return false;
     }
@@ -29,12 +36,17 @@ fn same_run(row: &[u8; 64], run: &[u8]) -> bool {
         & (u64_at(run, 24) == u64_at(row, 48))
 }
 
-fn wide(x: u8) -> usize {
+fn wide(x: u8) -> usize
+    ensures { λ r. ⌜ r ≡ x ⌝ }
+{
     x as usize
 }
 
 // Whether the call of a row returns what the row says, and leaves such a run.
-pub fn agrees(row: &[u8; 64], crest: &[u8], run: &mut [u8]) -> bool {
+pub fn agrees(row: &Row, crest: &[u8], run: &mut [u8]) -> bool
+    ensures { λ r. ⌜ r ≡ callAgrees (now (row .entry)) (now (crest .entry)) (now (run .entry)) ⌝ }
+    ensures { λ _. ⌜ now (run .exit) ≡ runAfterCall (now (row .entry)) (now (crest .entry)) (now (run .entry)) ⌝ }
+{
     let lent = wide(row[1]);
     if run.len() < lent {
         return false;

@@ -11,6 +11,7 @@ mod files;
 mod numbers;
 mod places;
 mod points;
+mod said;
 
 const ELEMENT: u16 = 1;
 

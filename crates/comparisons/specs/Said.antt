@@ -1,0 +1,19 @@
+-- The fields of a row, by the bytes after its head; reference/rows.py has their layout.
+use Prim.Native.Nat.{ℕ, _+_, _*_}
+use mathlib.Core.Bool.{Bool}
+use mathlib.Core.List.{List}
+use lib.Dec.{eqb}
+use lib.IntN.{ℤ}
+use mir.Syntax.{w64}
+use mir.Val.{toZ, ofZ}
+use Rattle.model.specs.Records.{u32At}
+
+abbrev pub u64At : List ℕ → ℕ → ℕ
+u64At l at = u32At l at + 4294967296 * u32At l (at + 4)
+
+abbrev pub i64At : List ℕ → ℕ → ℤ
+i64At l at = toZ w64 (u64At l at)
+
+-- whether the eight bytes from `at` on are z, in two's complement
+abbrev pub isAt : List ℕ → ℕ → ℤ → Bool
+isAt l at z = eqb (ofZ w64 z) (u64At l at)

@@ -1,8 +1,9 @@
 #!/usr/bin/env python3
-"""Writes the vectors that the program comparisons compares with: those of the four modules, in the layout of rows.py.
+"""Writes the vectors that the program comparisons compares with, those of the four modules in the layout of rows.py, and what it
+has to print: the files stdin and stdout of a folder.
 
-usage: comparisons.py FILE
-The same file each time.
+usage: comparisons.py FOLDER
+The same files each time.
 """
 
 import sys
@@ -17,11 +18,13 @@ from rows import Rows
 
 def main(arguments):
     if len(arguments) != 1:
-        sys.exit("usage: comparisons.py FILE")
+        sys.exit("usage: comparisons.py FOLDER")
     rows = Rows()
     for vectors in (element_vectors, crest_corpus, walk_vectors, reading_vectors):
         vectors.add_rows(rows)
-    Path(arguments[0]).write_bytes(rows.written())
+    folder = Path(arguments[0])
+    (folder / "stdin").write_bytes(rows.written())
+    (folder / "stdout").write_text(rows.told())
 
 
 if __name__ == "__main__":

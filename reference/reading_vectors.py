@@ -9,7 +9,7 @@ import crest
 from crest import ARC, ENTRY, EXIT, FRAME, OFFSET_LIMIT, ONE, Element, f64_bits
 from plain_files import altered, file_refusal, line, lines, patched, raw_file
 from random_crests import Wish, half_directions, random_file, random_point
-from rows import CALL, NOWHERE, NUMBER, RUN, STORE
+from rows import CALL, NOWHERE, NUMBER, STORE
 
 LARGE = 2**62
 NOT_WHOLE = 2**63 - 1
@@ -212,7 +212,7 @@ def add_histories(rows):
     parts = [rows.lay(file, SLOT * number) for number, file in enumerate(files)]
     for number in range(HISTORIES):
         state = beginning(rng)
-        rows.add(RUN, NOWHERE, state)
+        rows.begin(state)
         few = rng.sample(range(len(files)), rng.randint(1, 6))
         for _ in range(1 + number % 40):
             crest_number, values = call(rng, files, few, state)

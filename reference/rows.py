@@ -1,7 +1,8 @@
 """The rows that the program comparisons reads, and what its store holds after them.
 
 The program has a store of 65,536 bytes and 32 bytes in which a run lies, all zero at first. Its input is how many rows
-follow, u32, and the rows. A row has its sort and the start and length of a part of the store, u16 each, and then
+follow, u32, and the rows. A row has its sort, u8, whether it is wrong, u8 (0 or 1), and the start and length of a part of the
+store, u16 each, and then
 
     ELEMENT  for the record in that part: a station s from the element's start, u32, and X, Y, Tx, Ty there, i64
     FILE     for the crest file in that part: refusal number (0 where it is accepted) and place, u16
@@ -16,13 +17,17 @@ follow, u32, and the rows. A row has its sort and the start and length of a part
     RUN      what the run's bytes are to be from now on
 
 All little-endian. The part is empty where a row has no use for one.
+
+A wrong row is a right one with one bit changed in what it says, so that a comparison that does not look there is found out: some
+of the right rows come after such a copy of themselves. The bits are taken in turn, and each of a sort is changed at least once.
 """
 
+from collections import Counter
 from struct import Struct
 
 ELEMENT, FILE, POINT, NUMBER, CALL, BYTES, RUN = range(1, 8)
 COUNT = Struct("<I")
-HEAD = Struct("<HHH")
+HEAD = Struct("<BBHH")
 LAYOUT = {
     ELEMENT: Struct("<Iqqqq"),
     FILE: Struct("<HH"),
@@ -33,6 +38,23 @@ LAYOUT = {
 }
 STORE = 65_536
 NOWHERE = 0, 0
+NAMES = {ELEMENT: "element rows", FILE: "crest files", POINT: "points", NUMBER: "numbers", CALL: "calls"}
+
+# What a row says, and not what it asks, by the starts and ends of its bytes; and how many right rows there are to a wrong one.
+SAID = {
+    ELEMENT: ((4, 36),),
+    FILE: ((0, 4),),
+    POINT: ((16, 44),),
+    NUMBER: ((8, 16),),
+    CALL: ((4, 8), (24, 56)),
+}
+TO_A_WRONG_ONE = {ELEMENT: 20, FILE: 20, POINT: 8, NUMBER: 50, CALL: 20}
+ON_THE_RUN = (CALL,)
+
+
+def bits_said(sort):
+    """The byte and the bit of each bit that a row says."""
+    return [(at, bit) for start, end in SAID[sort] for at in range(start, end) for bit in range(8)]
 
 
 def differences(old, new):
@@ -46,22 +68,55 @@ def differences(old, new):
 
 
 class Rows:
-    """The rows so far, and what the store holds after them."""
+    """The rows so far, what the store and the run hold after them, and how many are right and wrong of each sort."""
 
     def __init__(self):
         self.rows = []
         self.store = bytearray(STORE)
+        self.run = bytes(LAYOUT[RUN].size)
+        self.right = Counter()
+        self.wrong = Counter()
+
+    def put(self, sort, part, row, wrong=False):
+        self.rows.append(HEAD.pack(sort, wrong, *part) + row)
 
     def lay(self, data, at=0):
         """Has the store hold these bytes from there on; the part in which they lie."""
         for start, end in differences(self.store[at : at + len(data)], data):
-            self.rows.append(HEAD.pack(BYTES, at + start, end - start) + data[start:end])
+            self.put(BYTES, (at + start, end - start), data[start:end])
         self.store[at : at + len(data)] = data
         assert len(self.store) == STORE
         return at, len(data)
 
+    def begin(self, run):
+        """Has the run be these bytes."""
+        self.put(RUN, NOWHERE, LAYOUT[RUN].pack(run))
+        self.run = run
+
+    def add_wrong(self, sort, part, row):
+        """The row with the next bit changed, after which the run is what it was."""
+        bits = bits_said(sort)
+        at, bit = bits[self.wrong[sort] % len(bits)]
+        self.put(sort, part, row[:at] + bytes([row[at] ^ 1 << bit]) + row[at + 1 :], wrong=True)
+        self.wrong[sort] += 1
+        if sort in ON_THE_RUN:
+            self.begin(self.run)
+
     def add(self, sort, part, *values):
-        self.rows.append(HEAD.pack(sort, *part) + LAYOUT[sort].pack(*values))
+        row = LAYOUT[sort].pack(*values)
+        if self.right[sort] % TO_A_WRONG_ONE[sort] == 0:
+            self.add_wrong(sort, part, row)
+        self.put(sort, part, row)
+        self.right[sort] += 1
+        if sort in ON_THE_RUN:
+            self.run = values[-1]
 
     def written(self):
+        for sort in SAID:
+            assert self.wrong[sort] >= len(bits_said(sort)), NAMES[sort]
         return COUNT.pack(len(self.rows)) + b"".join(self.rows)
+
+    def told(self):
+        """What the program has to print: no right row differs, and every wrong one."""
+        counts = [(NAMES[sort], self.right[sort], self.wrong[sort]) for sort in SAID]
+        return "".join(f"{name} {right} differ 0, wrong {wrong} differ {wrong}\n" for name, right, wrong in counts)

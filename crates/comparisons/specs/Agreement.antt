@@ -123,3 +123,14 @@ callAgrees row file run =
 unfoldable pub runAfterCall : List ℕ → List ℕ → List ℕ → List ℕ
 unfolding calledOn
 runAfterCall row file run = cond (leb (byteAt row 1) (length run)) (calledOn row file run .1) run
+
+-- ---- a row of any sort
+
+unfoldable pub rowAgrees : ℕ → List ℕ → List ℕ → List ℕ → Bool
+unfolding recordAgrees fileAgrees pointAgrees numberAgrees callAgrees
+rowAgrees sort row part run =
+    cond (eqb sort 1) (recordAgrees row part)
+    (cond (eqb sort 2) (fileAgrees row part)
+    (cond (eqb sort 3) (pointAgrees row part)
+    (cond (eqb sort 4) (numberAgrees row)
+    (cond (eqb sort 5) (callAgrees row part run) false))))

@@ -1,31 +1,33 @@
-// How many comparisons are done and how many of them differ, for each sort of them.
+// How many comparisons are done and how many of them differ, for each sort of them, with rows that are right and with rows that are wrong.
 ghost use mathlib.Core.Path.{_≡_};
 ghost use Prim.Native.Nat.{_<_};
 ghost use Rattle.tallies.specs.Compared.{tallyOf, nothingCompared, compared, countedAt};
 
 // The sorts that have a tally of their own.
-const SORTS: u16 = 5;
+const SORTS: u8 = 5;
 
 pub struct Tally {
     pub done: u64,
     pub differ: u64,
 }
 
-// The tallies of these sorts, each at its number, and at 0 that of all others.
+// The tallies of these sorts, each at its number, and at 0 that of all others: of rows that are right, and of rows that are wrong.
 pub struct Tallies {
-    pub of: [Tally; 6],
+    pub right: [Tally; 6],
+    pub wrong: [Tally; 6],
 }
 
 pub fn none() -> Tallies
     ensures { λ r. ⌜ r ≡ nothingCompared ⌝ }
 {
     Tallies {
-        of: [Tally { done: 0, differ: 0 }; 6],
+        right: [Tally { done: 0, differ: 0 }; 6],
+        wrong: [Tally { done: 0, differ: 0 }; 6],
     }
 }
 
 // Where the tally of a sort stands.
-pub fn index(sort: u16) -> usize
+pub fn index(sort: u8) -> usize
     ensures { λ r. ⌜ r ≡ tallyOf sort ⌝ }
     ensures { λ r. ⌜ r < 6 ⌝ }
 {
@@ -50,11 +52,15 @@ fn with(t: Tally, same: bool) -> Tally
     }
 }
 
-// One comparison more in the tally at k.
-pub fn counted(mut t: Tallies, k: usize, same: bool) -> Tallies
+// One comparison more in the tally at k, with a row that is wrong or right.
+pub fn counted(mut t: Tallies, k: usize, wrong: bool, same: bool) -> Tallies
     requires { ⌜ k < 6 ⌝ }
-    ensures { λ r. ⌜ r ≡ countedAt k t same ⌝ }
+    ensures { λ r. ⌜ r ≡ countedAt k wrong t same ⌝ }
 {
-    t.of[k] = with(t.of[k], same);
+    if wrong {
+        t.wrong[k] = with(t.wrong[k], same);
+    } else {
+        t.right[k] = with(t.right[k], same);
+    }
     t
 }

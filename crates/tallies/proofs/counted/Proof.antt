@@ -1,26 +1,30 @@
--- `tallies::counted` meets its contract: the tally at k is set to itself with one comparison more.
+-- `tallies::counted` meets its contract: the tally at k is set to itself with one comparison more, by whether the row is wrong.
 use borrow.Author.Needs.{needs}
+use Rattle.tallies.specs.Compared.{countedAt}
 use Rattle.tallies.proofs.counted.Statement.{statement}
 use Rattle.tallies.proofs.counted.Tie as tie
 
-mul-with : tie.Need-mul-with
-mul-with c = search needs
-
-element-copy-out-with : tie.Need-element-copy-out-with
-element-copy-out-with c = search needs
-
-with-requires : tie.Need-with-requires
-with-requires c κs = search needs
-
-mul-t10 : tie.Need-mul-t10
-mul-t10 c = search needs
-
-element-set-from-t : tie.Need-element-set-from-t
-element-set-from-t c = search needs
-
 returns : tie.Need-returns
-returns c = rw (c .with .ensures)
+unfolding countedAt
+returns c = rw (c .before .before .if1 .taken, c .with .ensures)
+
+returns-2 : tie.Need-returns-2
+unfolding countedAt
+returns-2 c = rw (c .before .before .if1 .left, c .with2 .ensures)
 
 pub counted-spec : {M : Type 1} → statement M
 counted-spec =
-    tie.close (tie.spec mul-with element-copy-out-with with-requires mul-t10 element-set-from-t returns)
+    tie.close
+    (tie.spec
+    (λ c. search needs)
+    (λ c. search needs)
+    (λ c κs. search needs)
+    (λ c. search needs)
+    (λ c. search needs)
+    (λ c. search needs)
+    (λ c. search needs)
+    (λ c κs. search needs)
+    (λ c. search needs)
+    (λ c. search needs)
+    returns
+    returns-2)

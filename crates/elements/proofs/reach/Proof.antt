@@ -4,7 +4,6 @@ use Prim.Native.Nat.{ℕ}
 use native.Mathlib.Omega.{arith}
 use borrow.Author.Needs.{needs}
 use Rattle.model.specs.declared.Kind.{Kind}
-use Rattle.model.specs.declared.Kind.the-variants.{Line, Arc, EntrySpiral, ExitSpiral}
 use Rattle.model.specs.declared.Shape.the-variants.{Straight, Circular, Clothoid}
 use Rattle.model.specs.Kinds.{shapeOf, anchoredFar}
 use Rattle.model.specs.Series.{fromAnchor}

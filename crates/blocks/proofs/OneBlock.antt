@@ -9,7 +9,7 @@ use lib.Seq.{drop-at, take-at, take-all}
 use Rattle.model.specs.Records.{u16At, u32At, u16Bytes, u32Bytes, part, sumA, sumB, usedIn}
 use Rattle.model.specs.Writer.{blockBody, withSums, block}
 use Rattle.fields.proofs.Bytes.{AllBytes}
-use Rattle.blocks.proofs.Fields.{u16-read, u32-read, u16-written, u32-written}
+use Rattle.fields.proofs.FieldAt.{u16-read, u32-read, u16-written, u32-written}
 use Rattle.fields.proofs.PartsOf.{drop-past, part-here, part-then}
 
 -- What l has at the places of a block's fields: number b, and u records in use.

@@ -15,7 +15,7 @@ use Rattle.model.specs.declared.Outcome.the-variants.{Done}
 use Rattle.model.specs.Records.{byteAt, put, recordBytes, countOf, recordOf}
 use Rattle.model.specs.Refusals.{verdict, orRefused}
 use Rattle.model.specs.Bound.{Bounded}
-use Rattle.model.specs.Acceptance.{sumsAgree, crestRules, crestElements}
+use Rattle.model.specs.Acceptance.{sumsAgree, crestRules, crestElements, elementsBytes}
 use Rattle.model.specs.Accepted.{Accepted, AlignmentAccepted}
 use Rattle.model.specs.Crest.{Crest, checkOf, SoundCrest, fileCrest}
 use Rattle.model.specs.Stations.{total, atStation}
@@ -30,8 +30,7 @@ use Rattle.crestfile.proofs.WriterRules.{writer-done}
 use Rattle.crestfile.proofs.Part.{record-part}
 use Rattle.demands.proofs.ReadThenWritten as reading
 use Rattle.demands.proofs.WrittenBytes as bytes
-use Rattle.demands.proofs.ElementBytes.{elementsBytes, records-of-elements}
-use Rattle.demands.proofs.SingleByte as changed
+use Rattle.blocks.proofs.SingleByte as changed
 
 -- ---- "each position's distances along and across lie within its bound of the series sum"
 
@@ -87,7 +86,7 @@ one-file = reading.one-file
 
 -- "A crest alignment is 1 to 60 elements read from blocks.": two accepted files with the same elements are the same bytes, since an accepted file is the file of its elements
 pub file-of-its-elements : (file : List ℕ) → AllBytes file → checkOf (fileCrest file) ≡ Done → fileOf (elementsBytes (crestElements file)) ≡ file
-file-of-its-elements file b e = ap fileOf (records-of-elements file b e) ∙ reading.read-then-written file b e .1
+file-of-its-elements file b e = ap fileOf (reading.records-of-elements file b e) ∙ reading.read-then-written file b e .1
 
 pub one-file-per-crest : (file other : List ℕ) → AllBytes file → AllBytes other → checkOf (fileCrest file) ≡ Done → checkOf (fileCrest other) ≡ Done → crestElements file ≡ crestElements other → file ≡ other
 one-file-per-crest file other b₁ b₂ e₁ e₂ same =

@@ -1,17 +1,12 @@
--- Fields and their bytes.
-pub mod FieldBytes
 -- The run record under any history of calls.
 pub mod Events
-pub mod RunBytes
 pub mod Histories
 pub mod Lent
 pub mod WrongRuns
--- The crest file: what is written reads back, what is read is written again, and a changed byte is seen.
+-- The crest file: what is written reads back, and what is read is written again.
 pub mod WrittenThenRead
 pub mod ReadThenWritten
 pub mod WrittenBytes
-pub mod ElementBytes
-pub mod SingleByte
 -- Orders of refusals, and the answers that they come to.
 pub mod Orders
 pub mod Places

@@ -1,20 +1,26 @@
--- The file of an accepted file's records is that file again: each of its blocks is the one that the writer makes of its records in use. So the file of a crest is the one file possible.
-use Prim.Native.Nat.{ℕ, _≤_}
+-- The file of an accepted file's records is that file again: each of its blocks is the one that the writer makes of its records in use. So the file of a crest is the one file possible; and its records are those of its elements.
+use Prim.Native.Nat.{ℕ, _*_, _≤_, _<_}
 use mathlib.Core.List.{List}
-use mathlib.Core.Path.{_≡_, sym, ap, _∙_}
+use mathlib.Core.Path.{_≡_, sym, subst, ap, _∙_}
+use native.Mathlib.Nat.{zero-add}
 use native.Mathlib.Omega.{arith}
 use lib.ListN.{length}
+use lib.Seq.{take-all}
 use Rattle.model.specs.declared.Outcome.the-variants.{Done}
-use Rattle.model.specs.Records.{put, recordBytes}
+use Rattle.model.specs.Records.{put, recordBytes, recordStart, countOf, recordOf}
 use Rattle.model.specs.Crest.{checkOf, fileCrest}
-use Rattle.model.specs.Refusals.{verdict}
+use Rattle.model.specs.Refusals.{Rule, verdict, forEach}
+use Rattle.model.specs.Acceptance.{elementOf, elementBytes, recordRules, elementAt, eachRecord, recordsRules, elementsOf, crestElements, elementsBytes}
 use Rattle.model.specs.Writer.{blocksFrom, fileOf, roomAfter, written}
-use Rattle.model.proofs.Verdict.{more, all→done}
-use Rattle.fields.proofs.Bytes.{AllBytes}
+use Rattle.model.proofs.Verdict.{AllHold, more, all→done}
+use Rattle.fields.proofs.Bytes.{AllBytes, part-bytes}
+use Rattle.records.proofs.RecordBytes.{record-same, each-same}
 use Rattle.crestfile.proofs.WriterRules.{rulesButRoom, writer-done}
 use Rattle.demands.proofs.WrittenThenRead.{written-then-read}
 use Rattle.crestfile.proofs.Blocks.{rewritten}
-use Rattle.crestfile.proofs.Crest.{Crest, accepted→crest, crest-count}
+use Rattle.crestfile.proofs.Crest.{Crest, accepted→crest, count-fits, crest-count}
+use Rattle.crestfile.proofs.ForEach.{append-all, all→each}
+use Rattle.crestfile.proofs.Part.{record-part}
 
 crest-file : {file records : List ℕ} → AllBytes file → Crest file records → fileOf records ≡ file
 unfolding fileOf
@@ -39,3 +45,23 @@ written-again file room bytes e enough =
 pub one-file : (file other : List ℕ) → AllBytes file → AllBytes other → checkOf (fileCrest file) ≡ Done → checkOf (fileCrest other) ≡ Done → recordBytes file ≡ recordBytes other → file ≡ other
 one-file file other b₁ b₂ e₁ e₂ same =
     sym (read-then-written file b₁ e₁ .1) ∙ ap fileOf same ∙ read-then-written other b₂ e₂ .1
+
+-- The records of an accepted file are those of its elements.
+pub records-of-elements : (file : List ℕ) → AllBytes file → checkOf (fileCrest file) ≡ Done → elementsBytes (crestElements file) ≡ recordBytes file
+unfolding crestElements elementsOf recordsRules eachRecord elementAt
+records-of-elements file b e =
+    let (crest, rules) = accepted→crest file e in
+    let fits = count-fits (length bytes) .0 (crest-count crest .0) in
+    let each = all→each own (countOf bytes) 0 (append-all (forEach own (countOf bytes) 0) rules .0) in
+    each-same (countOf bytes) 0 bytes (λ k h. one k (omega arith) (rw zero-add at (each k (omega arith)))) ∙ take-all (32 * countOf bytes) bytes (omega arith)
+  where
+    bytes : List ℕ
+    bytes = recordBytes file
+
+    own : ℕ → List Rule
+    own r = recordRules (recordOf bytes r) r
+
+    one : (k : ℕ) → k < countOf bytes → AllHold (own k) → elementBytes (elementOf (recordOf bytes k)) ≡ recordOf bytes k
+    one k h a =
+        let (same, within, long) = record-part file k e h in
+        record-same (recordOf bytes k) k (rw same at long) (subst AllBytes same (part-bytes file (recordStart k) 32 b)) a

@@ -1,7 +1,11 @@
--- The laws that belong to no one function.
-pub mod Stores
+-- Bytes, and a number's.
 pub mod Bytes
-pub mod Rest
+pub mod Digits
+pub mod FieldAt
+pub mod Listed
+-- Parts of them, read and written.
 pub mod PartsOf
+pub mod Rest
 pub mod Zeros
 pub mod Puts
+pub mod Stores

@@ -2,6 +2,7 @@
 pub mod Rounding
 pub mod Verdict
 pub mod RuleNumbers
+pub mod KindBytes
 pub mod Accepted
 pub mod Judged
 pub mod Answers

@@ -2,7 +2,7 @@
 use Prim.Native.Nat.{ℕ, zero, suc, _+_, _-_, _*_, _^_}
 use mathlib.Core.Bool.{Bool, true, false, not, cond, _&&_, _||_}
 use mathlib.Core.List.{List, [], _∷_, _++_}
-use lib.ListN.{length}
+use lib.ListN.{length, replicate}
 use lib.Dec.{leb, eqb}
 use lib.IntN.{ℤ, pos, natAbs, _+ℤ_, _-ℤ_, _*ℤ_}
 use Rattle.model.specs.declared.Kind.{Kind}
@@ -14,7 +14,7 @@ use Rattle.model.specs.declared.KindByte.the-variants.{Damaged, Known, L
 use Rattle.model.specs.declared.Element.{Element}
 use Rattle.model.specs.declared.Point.{Point}
 use Rattle.model.specs.Kinds.{decide, shapeOf}
-use Rattle.model.specs.Records.{byteAt, u16At, u32At, i32At, part, allZero, sumA, sumB, blockSize, recordSize, perBlock, fieldsAt, editionAt, edition, zerosAt, zeroCount, sumsAt, sumBAt, kindAt, firstZerosAt, firstZeroCount, recordLengthAt, xAt, yAt, cAt, sAt, radiusAt, lastZerosAt, lastZeroCount, blockCount, blockOf, usedIn, recordBytes, countOf, recordOf}
+use Rattle.model.specs.Records.{byteAt, u16At, u32At, i32At, u32Bytes, i32Bytes, part, allZero, sumA, sumB, blockSize, recordSize, perBlock, fieldsAt, editionAt, edition, zerosAt, zeroCount, sumsAt, sumBAt, kindAt, firstZerosAt, firstZeroCount, recordLengthAt, xAt, yAt, cAt, sAt, radiusAt, lastZerosAt, lastZeroCount, blockCount, blockOf, usedIn, recordBytes, countOf, recordOf}
 use Rattle.model.specs.Refusals.{Rule, rule, rule₀, forEach, byteCount, checksum, blockField, damagedRecord, laterKind, fieldOutOfRange, notUnit, gap, kink}
 use Rattle.model.specs.Series.{wholeLength, positionOn, tangentOn}
 
@@ -102,10 +102,26 @@ kindIn Damaged = Line
 kindIn (Known k) = k
 kindIn Later = Line
 
+-- "1 line, 2 arc, 3 entry spiral, 4 exit spiral": the byte that names a kind
+unfoldable pub kindByte : Kind → ℕ
+kindByte Line = 1
+kindByte Arc = 2
+kindByte EntrySpiral = 3
+kindByte ExitSpiral = 4
+
 -- "Record: 0 kind; 1 to 3 zero; 4 length L, u32; 8 x; 12 y; 16 c; 20 s; 24 radius R in mm; 28 zero, u32. x, y, c, s and R are i32."
 unfoldable pub elementOf : List ℕ → Element
 unfolding kindIn decide
 elementOf r = record { kind = kindIn (decide (byteAt r kindAt)); length = u32At r recordLengthAt; x = i32At r xAt; y = i32At r yAt; c = i32At r cAt; s = i32At r sAt; radius = i32At r radiusAt }
+
+-- the same fields, in their order, and the bytes that they make of an element
+abbrev pub recordFields : ℕ → List ℕ → List ℕ → List ℕ → List ℕ → List ℕ → List ℕ → List ℕ → List ℕ → List ℕ
+recordFields kind zeros long x y c s radius end = kind ∷ (zeros ++ (long ++ (x ++ (y ++ (c ++ (s ++ (radius ++ end)))))))
+
+unfoldable pub elementBytes : Element → List ℕ
+unfolding kindByte
+elementBytes e =
+    recordFields (kindByte (e .kind)) (replicate firstZeroCount 0) (u32Bytes (e .length)) (i32Bytes (e .x)) (i32Bytes (e .y)) (i32Bytes (e .c)) (i32Bytes (e .s)) (i32Bytes (e .radius)) (replicate lastZeroCount 0)
 
 -- ---- a record, by itself
 
@@ -220,3 +236,8 @@ elementsOf bytes = elementsFrom (countOf bytes) 0 bytes
 unfoldable pub crestElements : List ℕ → List Element
 unfolding elementsOf recordBytes
 crestElements file = elementsOf (recordBytes file)
+
+-- the bytes of elements, record by record
+unfoldable pub elementsBytes : List Element → List ℕ
+elementsBytes [] = []
+elementsBytes (e ∷ es) = elementBytes e ++ elementsBytes es

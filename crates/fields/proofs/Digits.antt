@@ -1,29 +1,14 @@
--- A field and its bytes: what is written in a field is what is read there, and bytes that are read from a field are those that are written there. A number has one
--- row of digits to the base 256.
-use Prim.Native.Nat.{ℕ, zero, suc, _+_, _*_, _/_, _%_, _^_, _<_}
+-- A number and its bytes: what is written is what is read, and the bytes that are read are those that are written. A number has one row of digits to the base 256.
+use Prim.Native.Nat.{ℕ, _+_, _*_, _/_, _%_, _^_, _<_}
 use native.Mathlib.Nat.{div-add-mod', mod-eq-of-lt, div-div-eq-div-mul}
 use native.Mathlib.Omega.{arith}
-use mathlib.Core.List.{List, [], _∷_}
-use mathlib.Core.Path.{_≡_, refl, ap, _∙_}
-use lib.ListN.{length, getD}
+use mathlib.Core.List.{[], _∷_}
+use mathlib.Core.Path.{_≡_, ap, _∙_}
 use lib.IntN.{ℤ}
 use mir.Syntax.{w32}
 use mir.Val.{SFits, toZ, ofZ}
 use mir.ValLaws.{toZ-ofZ, ofZ-toZ, ofZ-fits}
 use Rattle.model.specs.Records.{u16Bytes, u32Bytes, i32Bytes}
-
--- ---- a list written out
-
-unfoldable pub listOf : ℕ → (ℕ → ℕ) → List ℕ
-listOf zero f = []
-listOf (suc n) f = f 0 ∷ listOf n (λ i. f (suc i))
-
-pub written-out : (l : List ℕ) (n : ℕ) → length l ≡ n → l ≡ listOf n (λ i. getD l i 0)
-unfolding listOf
-written-out [] zero e = refl
-written-out [] (suc n) e = absurd (omega arith)
-written-out (x ∷ l) zero e = absurd (omega arith)
-written-out (x ∷ l) (suc n) e = ap (λ (m : List ℕ). x ∷ m) (written-out l n (omega arith))
 
 -- ---- what is written is what is read
 
@@ -33,7 +18,7 @@ u16-back n h = omega arith
 four-digits : (n a b c r s t : ℕ) → a * 256 + r ≡ n → b * 256 + s ≡ a → c * 256 + t ≡ b → r + 256 * s + 65536 * t + 16777216 * c ≡ n
 four-digits n a b c r s t p q u = omega arith
 
-u32-back : (n : ℕ) → n < 2 ^ 32 → n % 256 + 256 * (n / 256 % 256) + 65536 * (n / 65536 % 256) + 16777216 * (n / 16777216 % 256) ≡ n
+pub u32-back : (n : ℕ) → n < 2 ^ 32 → n % 256 + 256 * (n / 256 % 256) + 65536 * (n / 65536 % 256) + 16777216 * (n / 16777216 % 256) ≡ n
 u32-back n h =
     rw (mod-eq-of-lt {n = n / 16777216} {m = 256} (omega arith))
     (four-digits n (n / 256) (n / 65536) (n / 16777216) (n % 256) (n / 256 % 256) (n / 65536 % 256)

@@ -1,0 +1,2 @@
+-- The bytes of records and of their elements.
+pub mod RecordBytes

@@ -1,0 +1,2 @@
+-- The run record and its bytes.
+pub mod RunBytes

@@ -6,8 +6,8 @@ use mathlib.Core.Path.{_≡_, refl, subst}
 use borrow.Author.Tests.{ne-eqb}
 use lib.Dec.{ltb}
 use Rattle.model.specs.declared.KindByte.the-variants.{Damaged, Later}
-use Rattle.model.specs.Kinds.{decide}
-use Rattle.model.specs.Acceptance.{isDamaged, isLater, kindIn, kindByte}
+use Rattle.model.specs.Kinds.{decide, kindByte}
+use Rattle.model.specs.Acceptance.{isDamaged, isLater, kindIn}
 
 no-kind : (byte : ℕ) → 4 < byte → decide byte ≡ cond (ltb 15 byte) Damaged Later
 unfolding decide

@@ -13,7 +13,7 @@ use Rattle.model.specs.declared.KindByte.{KindByte}
 use Rattle.model.specs.declared.KindByte.the-variants.{Damaged, Known, Later}
 use Rattle.model.specs.declared.Element.{Element}
 use Rattle.model.specs.declared.Point.{Point}
-use Rattle.model.specs.Kinds.{decide, shapeOf}
+use Rattle.model.specs.Kinds.{decide, kindByte, shapeOf}
 use Rattle.model.specs.Records.{byteAt, u16At, u32At, i32At, u32Bytes, i32Bytes, part, allZero, sumA, sumB, blockSize, recordSize, perBlock, fieldsAt, editionAt, edition, zerosAt, zeroCount, sumsAt, sumBAt, kindAt, firstZerosAt, firstZeroCount, recordLengthAt, xAt, yAt, cAt, sAt, radiusAt, lastZerosAt, lastZeroCount, blockCount, blockOf, usedIn, recordBytes, countOf, recordOf}
 use Rattle.model.specs.Refusals.{Rule, rule, rule₀, forEach, byteCount, checksum, blockField, damagedRecord, laterKind, fieldOutOfRange, notUnit, gap, kink}
 use Rattle.model.specs.Series.{wholeLength, positionOn, tangentOn}
@@ -101,13 +101,6 @@ unfoldable pub kindIn : KindByte → Kind
 kindIn Damaged = Line
 kindIn (Known k) = k
 kindIn Later = Line
-
--- "1 line, 2 arc, 3 entry spiral, 4 exit spiral": the byte that names a kind
-unfoldable pub kindByte : Kind → ℕ
-kindByte Line = 1
-kindByte Arc = 2
-kindByte EntrySpiral = 3
-kindByte ExitSpiral = 4
 
 -- "Record: 0 kind; 1 to 3 zero; 4 length L, u32; 8 x; 12 y; 16 c; 20 s; 24 radius R in mm; 28 zero, u32. x, y, c, s and R are i32."
 unfoldable pub elementOf : List ℕ → Element

@@ -18,6 +18,13 @@ decide byte =
     (cond (eqb byte 4) (Known ExitSpiral)
     (cond (eqb byte 0 || ltb 15 byte) Damaged Later))))
 
+-- "1 line, 2 arc, 3 entry spiral, 4 exit spiral": the byte that names a kind
+unfoldable pub kindByte : Kind → ℕ
+kindByte Line = 1
+kindByte Arc = 2
+kindByte EntrySpiral = 3
+kindByte ExitSpiral = 4
+
 -- ---- the kinds by their curve: its shape, and which end is the anchor
 
 -- "1 line, 2 arc, 3 entry spiral, 4 exit spiral": both spirals have one shape, since "entry" and "exit" say only which end is straight.

@@ -629,6 +629,8 @@ def acceptance(rng):
     for byte in range(256):
         fault = crest.kind_fault(byte)
         kinds.append(Case(f"decide {byte}", {0: f"Known {KINDS.get(byte)}", 4: "Damaged", 5: "Later"}[fault]))
+    made = [element for _, found in accepted[::3] for element in found.elements[:2]]
+    records = [Case(f"elementBytes {element_text(element)}", spelt(crest.record_of(element))) for element in made]
     asked = [(file, 0) for file in damaged[::16]]
     for file, found in accepted[17:23] + accepted[45:48] + accepted[-3:-2]:
         count = len(found.elements)
@@ -646,6 +648,7 @@ def acceptance(rng):
         Table("files", "Outcome", f"verdict {FILE_CREST}", small, 10),
         Table("large-files", "Outcome", f"verdict {FILE_CREST}", large, 2),
         Table("elements", "List Element", "crestElements", elements, 8),
+        Table("records", "List ℕ", "elementBytes", records),
         Table("reader", "Outcome", "readerOutcome", outcomes[::2], 8),
         Table("reader-spans", "Span", "readerSpan", spans[1::2], 8),
         Table("reader-parts", "List ℕ", "readerPart", parts, 8),
@@ -656,6 +659,7 @@ def acceptance(rng):
         "declared.KindByte.{KindByte}",
         "declared.KindByte.the-variants.{Damaged, Known, Later}",
         "Kinds.{decide}",
+        "Acceptance.{elementBytes}",
         *FILE_CREST_USES,
         "Refusals.{verdict}",
         "Crest.{checkOf}",

@@ -120,7 +120,7 @@ anchored {e} a {s} h =
     let n = numbers a in
     let far = anchoredFar (e .kind) in
     let shape = shapeOf (e .kind) in
-    let t : angleAt e s ≡ pos 0 = ap (λ l. angleOf (turnOf shape (e .radius) (wholeLength e) l)) h ∙ no-turn shape (e .radius) (wholeLength e) (n .shortest) (n .radius) in
+    let t : angleAt e s ≡ pos 0 = ap (λ l. angleOf (turnOf shape (e .radius) (wholeLength e) l)) h ∙ no-turn shape (e .radius) (wholeLength e) (n .whole) (n .radius) in
     let local = ap₂ (localOf shape) h t ∙ local-0 shape in
     let direction = ap (directionOf shape) t ∙ direction-0 shape in
     record {

@@ -106,13 +106,13 @@ module _ {p : Prepared} (y : Ready p) where
     arc-half = omega (arith, half-is, arc-divisor)
 
     pub arc-asks : l ≤ whole → (l ≤ longestElement) × (p .half ≤ widest) × (1 ≤ p .divisor)
-    arc-asks b = omega (arith, b, numbers (y .accepted) .longest, numbers (y .accepted) .shortest, arc-half, arc-divisor, arc-radius)
+    arc-asks b = omega (arith, b, numbers (y .accepted) .longest, numbers (y .accepted) .whole, arc-half, arc-divisor, arc-radius)
 
     arc-angle : withSign sign (pos ((2 * (ONE * l) + p .half) / p .divisor)) ≡ angleOf (turnOf Circular (e .radius) whole l)
     unfolding angleOf turnOf
     arc-angle =
         ap₂ (λ (a d : ℕ). withSign sign (pos ((2 * (ONE * l) + a) / d))) arc-half arc-divisor
-        ∙ near-halves sign (ONE * l) radius (sign-small (e .radius)) (sym off-is) (omega (arith, numbers (y .accepted) .shortest, arc-radius))
+        ∙ near-halves sign (ONE * l) radius (sign-small (e .radius)) (sym off-is) (omega (arith, numbers (y .accepted) .whole, arc-radius))
         ∙ ap (λ (z : ℤ). near z radius) (scaled (e .radius) l)
 
   -- ---- the angle of a spiral
@@ -126,7 +126,7 @@ module _ {p : Prepared} (y : Ready p) where
     spiral-product = mul-le-mul {n₁ = radius} {m₁ = whole} {n₂ = widest} {m₂ = longestElement} (spiral-radius .1) (numbers (y .accepted) .longest)
 
     spiral-positive : 1 * 1 ≤ radius * whole
-    spiral-positive = mul-le-mul {n₁ = 1} {m₁ = 1} {n₂ = radius} {m₂ = whole} (omega (arith, spiral-radius, numbers (y .accepted) .shortest)) (numbers (y .accepted) .shortest)
+    spiral-positive = mul-le-mul {n₁ = 1} {m₁ = 1} {n₂ = radius} {m₂ = whole} (omega (arith, spiral-radius, numbers (y .accepted) .whole)) (numbers (y .accepted) .whole)
 
     spiral-divisor : p .divisor ≡ 2 * radius * whole
     unfolding divisorOf
@@ -165,7 +165,7 @@ module _ {p : Prepared} (y : Ready p) where
     curved =
         record {
           longest = omega (arith, b, numbers (y .accepted) .longest);
-          widest = magnitude-at-most sign a angle-is (angle-within (turnOf-turn k (e .radius) whole l (numbers (y .accepted) .shortest) (radius-on k h) b));
+          widest = magnitude-at-most sign a angle-is (angle-within (turnOf-turn k (e .radius) whole l (numbers (y .accepted) .whole) (radius-on k h) b));
           small = off-small;
         }
 

@@ -139,7 +139,7 @@ pub exact-moves : (e : Element) → Accepted e → (s j : ℕ) → s + j ≤ e .
 unfolding exactAlongAt exactAsideAt turnAt
 exact-moves e a s j h =
     let both =
-    both-move (e .radius) (wholeLength e) (lengthAt e s) (lengthAt e (s + j)) j (numbers a .shortest)
+    both-move (e .radius) (wholeLength e) (lengthAt e s) (lengthAt e (s + j)) j (numbers a .whole)
     (lengthAt-whole e (omega arith))
     (lengthAt-whole e h)
     (length-apart e s j h)

@@ -3,6 +3,7 @@ use Prim.Native.Nat.{ℕ, _*_, _≤_, _^_}
 use mathlib.Core.Bool.{_&&_}
 use mathlib.Core.List.{List}
 use mathlib.Core.Path.{_≡_, sym, subst}
+use native.Mathlib.Omega.{arith}
 use lib.Dec.{T, leb, leb→le, eqb→eq}
 use lib.IntN.{pos, natAbs, _+ℤ_, _-ℤ_, _*ℤ_}
 use mir.Facts.{and-yes}
@@ -24,7 +25,8 @@ RadiusFits Clothoid l r = (l ≤ r) × (r ≤ widest)
 
 pub record Numbers (e : Element) : Type 0 where
   pub shortest : 1 ≤ e .length
-  pub longest : e .length ≤ longestElement
+  pub longest : wholeLength e ≤ longestElement
+  pub whole : 1 ≤ wholeLength e
   pub radius : RadiusFits (shapeOf (e .kind)) (wholeLength e) (natAbs (e .radius))
   pub anchorX : natAbs (e .x) ≤ frame
   pub anchorY : natAbs (e .y) ≤ frame
@@ -49,6 +51,7 @@ numbers {e} a =
     record {
       shortest = l .0;
       longest = l .1;
+      whole = omega (arith, l .0);
       radius = radius-fits (shapeOf (e .kind)) (wholeLength e) (natAbs (e .radius)) (h .1);
       anchorX = f .0;
       anchorY = f .1;

@@ -15,8 +15,8 @@ use Rattle.model.specs.Acceptance.{crestRules}
 use Rattle.model.specs.Crest.{checkOf}
 use Rattle.model.specs.Answers.{Span, spanIf, readerOutcome, readerSpan}
 use Rattle.model.proofs.Verdict.{verdict-after, refused-before, done→all, all→done}
-use Rattle.crestfile.proofs.ForEach.{append-all, holds-one}
-use Rattle.crestfile.proofs.Orders.{one-done, one-refused}
+use Rattle.model.proofs.ForEach.{append-all, holds-one}
+use Rattle.model.proofs.InSteps.{one-done, one-refused}
 use Rattle.sources.specs.declared.Form.the-variants.{File}
 use Rattle.sources.specs.Sources.{layoutRules, recordsIn, countIn, crestIn, Readable}
 use Rattle.sources.proofs.Sound.{rules-accepted}

@@ -14,7 +14,7 @@ use Rattle.model.specs.Refusals.{Rule, rule₀, refusal, verdict, wrongRoom}
 use Rattle.model.specs.Crest.{checkOf}
 use Rattle.model.specs.Writer.{blocksNeeded, countFits, fileOf, writerRules, writerOutcome, roomAfter, written}
 use Rattle.model.proofs.Verdict.{verdict-after, refused-before}
-use Rattle.crestfile.proofs.Orders.{one-done, one-refused}
+use Rattle.model.proofs.InSteps.{one-done, one-refused}
 use Rattle.crestfile.proofs.WriterRules.{rulesButRoom, writer-done}
 use Rattle.sources.specs.declared.Form.the-variants.{Row}
 use Rattle.sources.specs.Sources.{layoutRules, recordsIn, crestIn}

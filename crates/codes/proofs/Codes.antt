@@ -16,7 +16,7 @@ use Rattle.model.specs.Crest.{Crest, SoundCrest, checkOf}
 use Rattle.model.specs.Answers.{PaperAnswer, paperOfOutcome, code}
 use Rattle.model.specs.Writer.{countFits, blocksNeeded, writerRules, writerOutcome}
 use Rattle.model.proofs.Verdict.{reason-numbered, done→all, refused→first}
-use Rattle.crestfile.proofs.ForEach.{holds-one}
+use Rattle.model.proofs.ForEach.{holds-one}
 use Rattle.crestfile.proofs.Crest.{count-fits}
 use Rattle.crestfile.proofs.Placed.{PlacedOrder, none-placed, rule-placed, then-placed, records-placed}
 use Rattle.codes.specs.Codes.{Small}

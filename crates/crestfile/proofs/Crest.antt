@@ -17,7 +17,7 @@ use Rattle.model.specs.Writer.{blocksNeeded, countFits}
 use Rattle.model.proofs.Verdict.{AllHold, more, done→all, all→done}
 use Rattle.integers.proofs.Tests.{eq-test, le-test, both-tests, either-test}
 use Rattle.fields.proofs.PartsOf.{length-part}
-use Rattle.crestfile.proofs.ForEach.{all-append, append-all, one-holds, holds-one, each→all, all→each}
+use Rattle.model.proofs.ForEach.{all-append, append-all, one-holds, holds-one, each→all, all→each}
 use Rattle.blocks.proofs.BlockRules.{Sound}
 use Rattle.crestfile.proofs.Blocks.{Blocks, file-length, used-bytes, each-sound, records-count, sound-row}
 

@@ -1,12 +1,10 @@
 -- The crest file: the rules of its blocks and records, and what a file that they accept is.
 pub mod Seams
-pub mod ForEach
 pub mod Blocks
 pub mod Crest
 pub mod WriterRules
 pub mod Part
 -- The laws of its functions.
-pub mod Orders
 pub mod Count
 pub mod PutBlocks
 pub mod Placed

@@ -14,7 +14,7 @@ use Rattle.model.specs.Refusals.{byteCount, Rule, rule₀, refusal, orRefused, 
 use Rattle.model.specs.Records.{mostRecords, blockCount, countOf, recordOf}
 use Rattle.model.specs.Acceptance.{elementAt, lengthFits, recordRules, joinRules, eachRecord, eachJoin, recordsRules, sumRules, fieldRules, blocksRules}
 use Rattle.model.proofs.Verdict.{verdict-after, refused-before, done→all}
-use Rattle.crestfile.proofs.ForEach.{holds-one}
+use Rattle.model.proofs.ForEach.{holds-one}
 use Rattle.crestfile.proofs.Crest.{fits→sized}
 
 -- ---- orders of refusals

@@ -10,7 +10,7 @@ use Rattle.model.specs.Refusals.{Rule, rule₀, verdict, recordCount}
 use Rattle.model.specs.Acceptance.{recordsRules}
 use Rattle.model.specs.Writer.{blocksNeeded, countFits, writerRules, writerOutcome}
 use Rattle.model.proofs.Verdict.{done→all, all→done}
-use Rattle.crestfile.proofs.ForEach.{all-append, append-all, one-holds, holds-one}
+use Rattle.model.proofs.ForEach.{all-append, append-all, one-holds, holds-one}
 
 -- "The writer gives 17, 4 to 9": its rules but the room
 abbrev pub rulesButRoom : List ℕ → List Rule

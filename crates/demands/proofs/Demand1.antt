@@ -41,7 +41,7 @@ use Rattle.model.proofs.Answers.{Tells, told-refused, told-paper, told-exactly,
 use Rattle.run.specs.Stored.{Storable}
 use Rattle.run.proofs.Refused.{refuses-numbered, AsRead, answer-as-read, Zeros, refusal-shows-zeros}
 use Rattle.run.proofs.Calls.{reading-18, reading-16, reading-counted, not-counted-unchanged, acknowledge-18, acknowledge-0}
-use Rattle.walk_laws.proofs.Reasons.{first-holds, rest-hold}
+use Rattle.model.proofs.Reasons.{first-holds, rest-hold}
 use Rattle.fields.proofs.Bytes.{AllBytes}
 use Rattle.sources.proofs.Sound.{file-sound}
 use Rattle.readings.proofs.Storable.{answer-storable}

@@ -36,7 +36,7 @@ use Rattle.model.proofs.Answers.{Tells, told-refused, told-exactly, station-tel
 use Rattle.model.proofs.RuleNumbers.{own-apart, records-own}
 use Rattle.model.proofs.Judged.{judged-least}
 use Rattle.sources.proofs.Sound.{file-sound}
-use Rattle.walk_laws.proofs.Reasons.{Lacks, empty, other, lacks-++, lacks-other, lacks→not-given}
+use Rattle.model.proofs.Reasons.{Lacks, empty, other, lacks-++, lacks-other, lacks→not-given}
 use Rattle.walk_laws.proofs.Spaced as spaced
 use Rattle.walk_laws.proofs.Walked as walked
 use Rattle.walk_laws.proofs.Outcomes.{Answered}

@@ -8,7 +8,6 @@ pub mod WrittenThenRead
 pub mod ReadThenWritten
 pub mod WrittenBytes
 -- Orders of refusals, and the answers that they come to.
-pub mod Orders
 pub mod Places
 pub mod RecordRefusals
 -- The three demands.

@@ -24,7 +24,7 @@ use Rattle.model.specs.Answers.{PaperAnswer, Question, answerAfter, readerOutco
 use Rattle.model.specs.Readings.{answerTo}
 use Rattle.model.proofs.RuleNumbers.{records-own}
 use Rattle.model.proofs.Answers.{Bare, none as bare-none, next as bare-next, Tells, told-exactly, station-tells, point-tells, place-tells, move-tells, reading-tells}
-use Rattle.walk_laws.proofs.Reasons.{Lacks, empty, other, lacks-other}
+use Rattle.model.proofs.Reasons.{Lacks, empty, other, lacks-other}
 use Rattle.demands.proofs.Places.{lacks-rule, lacks-forEach}
 use Rattle.demands.proofs.RecordRefusals.{records-lack}
 

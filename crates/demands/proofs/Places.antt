@@ -12,7 +12,7 @@ use Rattle.model.specs.declared.Outcome.{Outcome}
 use Rattle.model.specs.declared.Outcome.the-variants.{Done, Refused}
 use Rattle.model.specs.Refusals.{Reason, number, Rule, rule, refusal, orRefused, verdict, forEach}
 use Rattle.model.proofs.Verdict.{verdict-after, refused-before}
-use Rattle.walk_laws.proofs.Reasons.{Lacks, empty, other, lacks-++, lacks→not-given}
+use Rattle.model.proofs.Reasons.{Lacks, empty, other, lacks-++, lacks→not-given}
 
 -- ---- two parts of an order
 

@@ -19,7 +19,7 @@ use Rattle.crestfile.proofs.WriterRules.{rulesButRoom, writer-done}
 use Rattle.demands.proofs.WrittenThenRead.{written-then-read}
 use Rattle.crestfile.proofs.Blocks.{rewritten}
 use Rattle.crestfile.proofs.Crest.{Crest, accepted→crest, count-fits, crest-count}
-use Rattle.crestfile.proofs.ForEach.{append-all, all→each}
+use Rattle.model.proofs.ForEach.{append-all, all→each}
 use Rattle.crestfile.proofs.Part.{record-part}
 
 crest-file : {file records : List ℕ} → AllBytes file → Crest file records → fileOf records ≡ file

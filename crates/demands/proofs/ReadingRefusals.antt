@@ -32,11 +32,12 @@ use Rattle.model.specs.Histories.{Came, reading}
 use Rattle.model.proofs.Verdict.{done→all, all→done, reason-numbered}
 use Rattle.model.proofs.RuleNumbers.{own-apart}
 use Rattle.model.proofs.Answers.{rules-hold, Tells, told-exactly, told-answer, point-tells, place-tells, reading-tells, numbered, plane-asked}
-use Rattle.crestfile.proofs.ForEach.{append-all, all-append, holds-one, one-holds}
+use Rattle.model.proofs.ForEach.{append-all, all-append, holds-one, one-holds}
 use Rattle.walk_laws.proofs.Outcomes.{TooFar, BeforeStart, AfterEnd, Answered, crest-answered, crest-outside-frame, crest-too-far, crest-before-start, crest-after-end}
-use Rattle.walk_laws.proofs.Reasons.{Lacks, empty, other, lacks-++, lacks-other, lacks→not-given}
+use Rattle.model.proofs.Reasons.{Lacks, empty, other, lacks-++, lacks-other, lacks→not-given}
 use Rattle.run.proofs.Calls.{reading-counted}
-use Rattle.demands.proofs.Orders.{and-fails, held-between, next-after-crest}
+use Rattle.integers.proofs.Tests.{and-fails}
+use Rattle.model.proofs.AfterCrest.{held-between, next-after-crest}
 use Rattle.demands.proofs.Places.{first-part, second-part}
 use Rattle.demands.proofs.Demand1.{Numbered, came-numbered, ReadingEnds, no-run, run-full, counts, any-reading-call}
 use Rattle.demands.proofs.RefusalTable.{place-refused-11, place-refused-15}

@@ -17,9 +17,9 @@ use Rattle.model.specs.Records.{byteAt, countOf, recordOf}
 use Rattle.model.specs.Refusals.{Reason, damagedRecord, laterKind, fieldOutOfRange, notUnit, gap, kink, Rule, rule, number, refusal, verdict, forEach}
 use Rattle.model.specs.Acceptance.{isDamaged, isLater, elementOf, reservedZero, rangesGood, isUnit, recordRules, meets, continues, joinRules, elementAt, eachRecord, eachJoin, recordsRules}
 use Rattle.model.proofs.Verdict.{AllHold, none, more, done→all, all→done}
-use Rattle.crestfile.proofs.ForEach.{all-append, append-all, each→all, all→each}
-use Rattle.walk_laws.proofs.Reasons.{Lacks, empty, other, lacks-++, first-holds, rest-hold, given-exactly}
-use Rattle.demands.proofs.Orders.{first-given}
+use Rattle.model.proofs.ForEach.{all-append, append-all, each→all, all→each}
+use Rattle.model.proofs.Reasons.{Lacks, empty, other, lacks-++, first-holds, rest-hold, given-exactly}
+use Rattle.model.proofs.AfterCrest.{first-given}
 use Rattle.demands.proofs.Places.{two-parts, lacks-rule, lacks-forEach, AllAt, nowhere, here, given-at-place}
 
 -- ---- one record

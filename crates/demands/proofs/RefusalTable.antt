@@ -38,13 +38,14 @@ use Rattle.model.specs.Histories.{Came}
 use Rattle.model.proofs.Verdict.{reason-numbered, none, more, done→all, all→done}
 use Rattle.model.proofs.RuleNumbers.{records-own}
 use Rattle.sources.proofs.Sound.{file-sound}
-use Rattle.crestfile.proofs.ForEach.{one-holds, holds-one, each→all, all→each}
+use Rattle.model.proofs.ForEach.{one-holds, holds-one, each→all, all→each}
 use Rattle.crestfile.proofs.WriterRules.{rulesButRoom}
-use Rattle.walk_laws.proofs.Reasons.{Lacks, first-holds, rest-hold, empty, other, lacks-++, lacks-other, given-exactly}
+use Rattle.model.proofs.Reasons.{Lacks, first-holds, rest-hold, empty, other, lacks-++, lacks-other, given-exactly}
 use Rattle.walk_laws.proofs.Outcomes.{crest-outside-frame}
 use Rattle.run.proofs.Calls.{reading-18, reading-16, answer-not-the-runs, acknowledge-18, acknowledge-0}
 use Rattle.run.proofs.Noting.{noted-full, noted-counted}
-use Rattle.demands.proofs.Orders.{and-fails, two-rules, first-given, given-after-crest, next-after-crest}
+use Rattle.integers.proofs.Tests.{and-fails}
+use Rattle.model.proofs.AfterCrest.{two-rules, first-given, given-after-crest, next-after-crest}
 use Rattle.demands.proofs.Places.{lacks-rule, lacks-forEach, nowhere, here, given-at-place}
 use Rattle.demands.proofs.RecordRefusals.{RecordGives4, RecordGives5, RecordGives6, RecordGives7, JoinGives8, JoinGives9, record-gives-4, record-gives-5, record-gives-6, record-gives-7, join-gives-8, join-gives-9, RecordReached, JoinReached, records-lack, given-at-record, given-at-join}
 use Rattle.demands.proofs.Demand1.{Numbered, refused-numbered, came-as-read, ReadingEnds, no-run, run-full, counts, any-reading-call, stakeOutRules, stake-out-code}

@@ -1,7 +1,7 @@
 -- Tests as facts: a test of two tests holds exactly when the facts of both do.
 use Prim.Native.Nat.{ℕ, _≤_}
-use mathlib.Core.Bool.{Bool, true, false, _&&_, _||_, and-eq-true-iff}
-use mathlib.Core.Logic.{_↔_}
+use mathlib.Core.Bool.{Bool, true, false, _&&_, _||_, and-eq-true-iff, false≢true}
+use mathlib.Core.Logic.{_⊎_, inl, inr, _↔_}
 use mathlib.Core.Path.{_≡_, refl, sym}
 use borrow.Author.Tests.{eqb-true, eq-eqb, leb-true, le-leb}
 use lib.Dec.{leb, eqb}
@@ -26,3 +26,11 @@ pub same-test : (a b : Bool) → ((a ≡ true) ↔ (b ≡ true)) → a ≡ b
 same-test true b h = sym (h .0 refl)
 same-test false true h = h .1 refl
 same-test false false h = refl
+
+pub and-fails : (a b : Bool) → ((a && b) ≡ false) ↔ ((a ≡ false) ⊎ (b ≡ false))
+and-fails true b = ((λ e. inr e), go)
+  where
+    go : (true ≡ false) ⊎ (b ≡ false) → b ≡ false
+    go (inl e) = absurd (false≢true (sym e))
+    go (inr e) = e
+and-fails false b = ((λ e. inl refl), (λ e. refl))

@@ -14,7 +14,7 @@ use Rattle.elements.specs.declared.Prepared.{Prepared}
 use Rattle.elements.specs.Prepared.{preparedOf}
 use Rattle.elements.specs.Reached.{placementOf}
 use Rattle.elements.proofs.Extent.{extent}
-use Rattle.crestfile.proofs.Orders.{Left}
+use Rattle.model.proofs.InSteps.{Left}
 use Rattle.sources.specs.declared.Form.{Form}
 use Rattle.sources.specs.Sources.{recordsIn, countIn}
 use Rattle.sources.proofs.RecordsRead.{elementIn, RecordsRead}

@@ -11,7 +11,7 @@ use Rattle.model.specs.Acceptance.{elementAt, recordRules, eachRecord, elements
 use Rattle.model.specs.Accepted.{Accepted, AllAccepted}
 use Rattle.model.proofs.Verdict.{AllHold, all→done}
 use Rattle.model.proofs.Accepted.{record-accepted}
-use Rattle.crestfile.proofs.ForEach.{append-all}
+use Rattle.model.proofs.ForEach.{append-all}
 
 module _ (bytes : List ℕ) where
   from-length : (n r : ℕ) → length (elementsFrom n r bytes) ≡ n

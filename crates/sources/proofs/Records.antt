@@ -9,7 +9,7 @@ use Rattle.model.specs.Records.{recordSize, mostRecords, part, recordOf}
 use Rattle.model.specs.Writer.{countFits}
 use Rattle.model.proofs.Verdict.{done→all}
 use Rattle.fields.proofs.PartsOf.{length-part}
-use Rattle.crestfile.proofs.ForEach.{holds-one}
+use Rattle.model.proofs.ForEach.{holds-one}
 use Rattle.crestfile.proofs.Crest.{blocks→crest, count-fits, crest-count}
 use Rattle.crestfile.proofs.Part.{record-within}
 use Rattle.sources.specs.declared.Form.{Form}

@@ -9,7 +9,7 @@ use Rattle.model.specs.Acceptance.{eachRecord, recordsRules, crestRules, crestE
 use Rattle.model.specs.Crest.{checkOf, fileCrest, isOwn, SoundCrest}
 use Rattle.model.proofs.Verdict.{done→all, all→done}
 use Rattle.model.proofs.RuleNumbers.{gives-++, records-own, blocks-own}
-use Rattle.crestfile.proofs.ForEach.{append-all}
+use Rattle.model.proofs.ForEach.{append-all}
 use Rattle.crestfile.proofs.Placed.{PlacedOrder, then-placed, blocks-placed, records-placed}
 use Rattle.sources.specs.declared.Form.{Form}
 use Rattle.sources.specs.declared.Form.the-variants.{File}

@@ -5,6 +5,4 @@ pub mod Visits
 pub mod Passed
 pub mod Walked
 -- When a point is answered, and when it is refused with 12, 13 or 14.
-pub mod Reasons
-pub mod Crest
 pub mod Outcomes

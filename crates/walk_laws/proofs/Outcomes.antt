@@ -30,8 +30,8 @@ use Rattle.model.specs.Walk.{firstVisits, secondVisits, visits, visitCount}
 use Rattle.model.specs.Answers.{farthest, pastEnd, pointRules, answerIf, answerAfter, pointQuestion, locatedOn, located}
 use Rattle.model.proofs.Answers.{told-exactly, point-tells}
 use Rattle.model.proofs.Verdict.{AllHold, none, more, done→all, all→done}
-use Rattle.walk_laws.proofs.Crest.{asked-exactly}
-use Rattle.walk_laws.proofs.Reasons.{first-holds, rest-hold, Lacks, empty, other, given-exactly}
+use Rattle.model.proofs.AfterCrest.{asked-exactly}
+use Rattle.model.proofs.Reasons.{first-holds, rest-hold, Lacks, empty, other, given-exactly}
 
 -- ---- the table's conditions, each where none before it applies
 

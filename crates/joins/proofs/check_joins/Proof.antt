@@ -7,7 +7,7 @@ use Rattle.model.specs.declared.Element.{Element}
 use Rattle.model.specs.Refusals.{verdict}
 use Rattle.model.specs.Acceptance.{eachJoin}
 use Rattle.model.proofs.Answers.{told-outcome}
-use Rattle.crestfile.proofs.Orders.{left-all, left-next, left-refused, left-none}
+use Rattle.model.proofs.InSteps.{left-all, left-next, left-refused, left-none}
 use Rattle.sources.specs.Sources.{recordsIn}
 use Rattle.sources.proofs.RecordsRead.{elementIn, RecordsRead, read-asks, read-count, read-accepted}
 use Rattle.joins.proofs.JoinElements.{placedOn, prepared-placed, prepared-length, small-placed, joinAt, Joined, join-here}

@@ -8,7 +8,7 @@ use Rattle.model.specs.Records.{recordOf}
 use Rattle.model.specs.Refusals.{Rule}
 use Rattle.model.specs.Acceptance.{recordRules, eachRecord}
 use Rattle.model.proofs.Answers.{told-outcome}
-use Rattle.crestfile.proofs.Orders.{Left, left-all, left-next, left-refused, left-none}
+use Rattle.model.proofs.InSteps.{Left, left-all, left-next, left-refused, left-none}
 use Rattle.sources.specs.Sources.{recordsIn, countIn}
 use Rattle.sources.proofs.Records.{records-counted}
 use Rattle.sources.proofs.check_records.Statement.{statement}

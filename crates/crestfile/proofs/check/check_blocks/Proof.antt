@@ -11,7 +11,7 @@ use Rattle.model.specs.Acceptance.{lengthFits, sumRules, fieldRules, blocksRule
 use Rattle.model.proofs.Verdict.{done→all, verdict-after, refused-before}
 use Rattle.model.proofs.Answers.{told-outcome}
 use Rattle.crestfile.specs.BlockChecks.{blockRules, eachBlock}
-use Rattle.crestfile.proofs.ForEach.{holds-one}
+use Rattle.model.proofs.ForEach.{holds-one}
 use Rattle.crestfile.proofs.Crest.{fits→sized}
 use Rattle.crestfile.proofs.check.check_blocks.Statement.{statement}
 use Rattle.crestfile.proofs.check.check_blocks.Tie as tie

@@ -9,7 +9,7 @@ use Rattle.model.specs.Refusals.{Rule, verdict}
 use Rattle.fields.proofs.PartsOf.{length-part}
 use Rattle.crestfile.specs.declared.check.BlockCheck.{BlockCheck}
 use Rattle.crestfile.specs.BlockChecks.{blockRules, eachBlock}
-use Rattle.crestfile.proofs.Orders.{Left, left-all, left-next, left-refused, left-none}
+use Rattle.model.proofs.InSteps.{Left, left-all, left-next, left-refused, left-none}
 use Rattle.crestfile.proofs.check.check_each.Statement.{statement}
 use Rattle.crestfile.proofs.check.check_each.Tie as tie
 

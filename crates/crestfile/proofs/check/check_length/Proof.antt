@@ -7,7 +7,7 @@ use borrow.Author.Tests.{ne-eqb}
 use borrow.Author.Needs.{needs}
 use Rattle.model.specs.Refusals.{refusal, number, byteCount}
 use Rattle.model.specs.Acceptance.{lengthFits}
-use Rattle.crestfile.proofs.Orders.{one-done, one-refused}
+use Rattle.model.proofs.InSteps.{one-done, one-refused}
 use Rattle.crestfile.proofs.check.check_length.Statement.{statement}
 use Rattle.crestfile.proofs.check.check_length.Tie as tie
 

@@ -1,25 +1,22 @@
--- After a crest's own rules, whatever its source, a rule that alone gives its number is the first to fail exactly when that number is given.
+-- After a crest's own rules, whatever its source: a rule that alone gives its number is the first to fail exactly when that number is given, and what is no refusal of the crest's own
+-- is given on an accepted crest.
 use Prim.Native.Nat.{ℕ}
-use mathlib.Core.Bool.{Bool, true, false, _&&_, false≢true}
+use mathlib.Core.Bool.{Bool, true, false, _&&_}
 use mathlib.Core.List.{List, [], _∷_, _++_, append-assoc}
-use mathlib.Core.Logic.{_⊎_, inl, inr, _↔_, Iff·trans}
-use mathlib.Core.Path.{_≡_, refl, sym, ap}
+use mathlib.Core.Logic.{_↔_, Iff·trans}
+use mathlib.Core.Path.{_≡_, refl, ap}
+use native.Mathlib.Omega.{arith}
+use Rattle.model.specs.declared.Element.{Element}
+use Rattle.model.specs.declared.Refusal.{Refusal}
 use Rattle.model.specs.declared.Outcome.the-variants.{Done, Refused}
 use Rattle.model.specs.Refusals.{Reason, Rule, number, refusal, rule, Gives, orRefused, verdict}
 use Rattle.model.specs.Crest.{Crest, checkOf, isOwn}
+use Rattle.model.specs.Answers.{PaperAnswer, Question, answerOf, asked}
 use Rattle.model.proofs.Verdict.{AllHold, none, done→all, all→done, verdict-after}
-use Rattle.crestfile.proofs.ForEach.{all-append, append-all}
-use Rattle.walk_laws.proofs.Reasons.{Lacks, empty, lacks-++, lacks-other, given-exactly}
-
--- ---- tests
-
-pub and-fails : (a b : Bool) → ((a && b) ≡ false) ↔ ((a ≡ false) ⊎ (b ≡ false))
-and-fails true b = ((λ e. inr e), go)
-  where
-    go : (true ≡ false) ⊎ (b ≡ false) → b ≡ false
-    go (inl e) = absurd (false≢true (sym e))
-    go (inr e) = e
-and-fails false b = ((λ e. inl refl), (λ e. refl))
+use Rattle.model.proofs.ForEach.{all-append, append-all}
+use Rattle.model.proofs.Reasons.{Lacks, empty, lacks-++, lacks-other, given-exactly}
+use Rattle.model.proofs.RuleNumbers.{given}
+use Rattle.model.proofs.Answers.{Tells, told-later}
 
 -- ---- the first rule that fails
 
@@ -59,3 +56,10 @@ module _ (r : Rule) (after : List Rule) (l : Lacks (number (r .why)) after) wher
     -- next after them
     pub next-after-crest : (verdict (c .rules ++ (r ∷ after)) ≡ Refused (refusal (r .why) (r .place))) ↔ ((checkOf c ≡ Done) × (r .holds ≡ false))
     next-after-crest = Iff·trans (given-after-crest [] empty) ((λ x. (x .0, x .2)), (λ x. (x .0, none, x .1)))
+
+-- ---- a question to a crest
+
+-- an answer, and a refusal with a number that is no crest's own, is given exactly when the crest is accepted and its elements give it
+pub asked-exactly : {A : Type 0} {refused : Refusal → A} {paperOf : A → PaperAnswer} (question : List Element → Question A) (c : Crest) → Tells refused paperOf (question (c .elements)) → Gives isOwn (c .rules) →
+    (a : A) → ((w : Refusal) → a ≡ refused w → isOwn (w .number) ≡ false) → (asked question c ≡ a) ↔ ((checkOf c ≡ Done) × (answerOf (question (c .elements)) ≡ a))
+asked-exactly question c tells own a later = told-later tells (c .rules) (λ w k e. let z : _≡_ {A = ℕ} 0 1 = cc (given w own k, later w e) in omega arith)

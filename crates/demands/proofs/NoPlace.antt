@@ -6,6 +6,7 @@ use mathlib.Core.List.{List, [], _∷_, _++_}
 use mathlib.Core.Path.{_≡_, refl, sym, _∙_}
 use native.Mathlib.Omega.{arith}
 use lib.IntN.{ℤ}
+use Rattle.integers.proofs.Order.{clash}
 use Rattle.model.specs.declared.Point.{Point}
 use Rattle.model.specs.declared.Refusal.{Refusal}
 use Rattle.model.specs.declared.Outcome.the-variants.{Refused}
@@ -45,7 +46,7 @@ lacks-at-0 (other h l) = next (λ e. absurd (h e)) (lacks-at-0 l)
 
 given-at-0 : {rs : List Rule} {w : Refusal} → At0 (w .number) rs → verdict rs ≡ Refused w → w .place ≡ 0
 unfolding verdict orRefused refusal
-given-at-0 none e = let z : _≡_ {A = ℕ} 0 1 = cc in absurd (omega arith)
+given-at-0 none e = clash cc
 given-at-0 {w} (next {r} {rs} h k) e = go (given-at-0 k) (r .holds) e
   where
     go : (verdict rs ≡ Refused w → w .place ≡ 0) → (b : Bool) → orRefused b (r .why) (r .place) (verdict rs) ≡ Refused w → w .place ≡ 0

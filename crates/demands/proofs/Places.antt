@@ -7,6 +7,7 @@ use mathlib.Core.Logic.{_≢_, _⊎_, inl, inr, _↔_, Iff·trans}
 use mathlib.Core.Path.{_≡_, refl, sym, subst, _∙_}
 use native.Mathlib.Decide.{ℕ-discrete}
 use native.Mathlib.Omega.{arith}
+use Rattle.integers.proofs.Order.{clash}
 use Rattle.model.specs.declared.Refusal.{Refusal}
 use Rattle.model.specs.declared.Outcome.{Outcome}
 use Rattle.model.specs.declared.Outcome.the-variants.{Done, Refused}
@@ -61,7 +62,7 @@ pub data AllAt (i : ℕ) : List Rule → Type 0 where
 
 place-given : {i : ℕ} {rs : List Rule} {w : Refusal} → AllAt i rs → verdict rs ≡ Refused w → w .place ≡ i
 unfolding verdict orRefused refusal
-place-given nowhere e = let z : _≡_ {A = ℕ} 0 1 = cc in absurd (omega arith)
+place-given nowhere e = clash cc
 place-given {i} {w = w} (here {r} {rs} h a) e = go (r .holds) (place-given a) e
   where
     go : (b : Bool) → (verdict rs ≡ Refused w → w .place ≡ i) → orRefused b (r .why) (r .place) (verdict rs) ≡ Refused w → w .place ≡ i
@@ -78,7 +79,7 @@ module _ (f : ℕ → List Rule) (at : (k : ℕ) → AllAt k (f k)) (w : Refusal
 
   refused→place : (n i : ℕ) → verdict (forEach f n i) ≡ Refused w → FirstOf n i
   unfolding forEach verdict
-  refused→place zero i e = let z : _≡_ {A = ℕ} 0 1 = cc in absurd (omega arith)
+  refused→place zero i e = clash cc
   refused→place (suc n) i e = go (refused→place n (i + 1)) (two-parts (f i) (forEach f n (i + 1)) w .0 e)
     where
       by : verdict (f i) ≡ Done → FirstOf n (i + 1) → (k : ℕ) → i ≤ k → k < w .place → Dec (k ≡ i) → verdict (f k) ≡ Done

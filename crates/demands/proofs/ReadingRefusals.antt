@@ -37,6 +37,7 @@ use Rattle.walk_laws.proofs.Outcomes.{TooFar, BeforeStart, AfterEnd, Answered, 
 use Rattle.model.proofs.Reasons.{Lacks, empty, other, lacks-++, lacks-other, lacks→not-given}
 use Rattle.run.proofs.Calls.{reading-counted}
 use Rattle.integers.proofs.Tests.{and-fails}
+use Rattle.integers.proofs.Order.{clash}
 use Rattle.model.proofs.AfterCrest.{held-between, next-after-crest}
 use Rattle.demands.proofs.Places.{first-part, second-part}
 use Rattle.demands.proofs.Demand1.{Numbered, came-numbered, ReadingEnds, no-run, run-full, counts, any-reading-call}
@@ -46,7 +47,7 @@ use Rattle.demands.proofs.RefusalTable.{place-refused-11, place-refused
 
 not-whole : (a : Whole) → (isWhole a ≡ false) ↔ (a ≡ none)
 unfolding isWhole
-not-whole (whole n) = ((λ e. let z : _≡_ {A = ℕ} 0 1 = cc in absurd (omega arith)), (λ e. let z : _≡_ {A = ℕ} 0 1 = cc in absurd (omega arith)))
+not-whole (whole n) = ((λ e. clash cc), (λ e. clash cc))
 not-whole none = ((λ e. refl), (λ e. refl))
 
 not-both-whole : (a b : Whole) → ((isWhole a && isWhole b) ≡ false) ↔ ((a ≡ none) ⊎ (b ≡ none))
@@ -76,7 +77,7 @@ not-own why own-number later e = false≢true (sym later ∙ ap isOwn e ∙ own-
 from-answered : (l : Located) {station : ℕ} {offset residual : ℤ} {count : ℕ} → (fromLocated l ≡ AnswerPoint station offset residual count) ↔ (l ≡ LocatedAt station offset residual count)
 unfolding fromLocated
 from-answered (LocatedAt station offset residual count) = ((λ e. cc), (λ e. cc))
-from-answered (LocatedRefused why) = ((λ e. let z : _≡_ {A = ℕ} 0 1 = cc in absurd (omega arith)), (λ e. let z : _≡_ {A = ℕ} 0 1 = cc in absurd (omega arith)))
+from-answered (LocatedRefused why) = ((λ e. clash cc), (λ e. clash cc))
 
 -- ---- a reading of two numbers on a crest, whatever it asks: the rule of its numbers stands between the crest's own rules and those of the question q
 
@@ -183,7 +184,7 @@ module _ (c : Crest) (own : Gives isOwn (c .rules)) (x y : Float) where
       let p = pointOf x y in
       let at = crest-answered c own p station offset residual count in (
         (λ e.
-            let on = told-answer (point-tells p es) (c .rules ++ numberRules x y) {a = LocatedAt station offset residual count} (λ why f. let z : _≡_ {A = ℕ} 0 1 = cc in omega arith) (from-answered _ .0 (sym (plane-asked (c .rules) x y es) ∙ e)) in
+            let on = told-answer (point-tells p es) (c .rules ++ numberRules x y) {a = LocatedAt station offset residual count} (λ why f. clash cc) (from-answered _ .0 (sym (plane-asked (c .rules) x y es) ∙ e)) in
             let h = numbers-hold c x y .0 (on .0) in
             (h .0, h .1, at .0 (rules-hold (pointQuestion p es) (c .rules) (h .0) ∙ on .1) .1)),
         (λ z. point-reading (z .1) ∙ from-answered (located c p) .1 (at .1 (z .0, z .2))),

@@ -5,7 +5,7 @@ use mathlib.Core.Bool.{Bool, true, false, _&&_}
 use mathlib.Core.List.{List, [], _∷_, _++_, append-assoc}
 use mathlib.Core.Logic.{_↔_, Iff·trans}
 use mathlib.Core.Path.{_≡_, refl, ap}
-use native.Mathlib.Omega.{arith}
+use Rattle.integers.proofs.Order.{clash}
 use Rattle.model.specs.declared.Element.{Element}
 use Rattle.model.specs.declared.Refusal.{Refusal}
 use Rattle.model.specs.declared.Outcome.the-variants.{Done, Refused}
@@ -62,4 +62,4 @@ module _ (r : Rule) (after : List Rule) (l : Lacks (number (r .why)) after) wher
 -- an answer, and a refusal with a number that is no crest's own, is given exactly when the crest is accepted and its elements give it
 pub asked-exactly : {A : Type 0} {refused : Refusal → A} {paperOf : A → PaperAnswer} (question : List Element → Question A) (c : Crest) → Tells refused paperOf (question (c .elements)) → Gives isOwn (c .rules) →
     (a : A) → ((w : Refusal) → a ≡ refused w → isOwn (w .number) ≡ false) → (asked question c ≡ a) ↔ ((checkOf c ≡ Done) × (answerOf (question (c .elements)) ≡ a))
-asked-exactly question c tells own a later = told-later tells (c .rules) (λ w k e. let z : _≡_ {A = ℕ} 0 1 = cc (given w own k, later w e) in omega arith)
+asked-exactly question c tells own a later = told-later tells (c .rules) (λ w k e. clash (cc (given w own k, later w e)))

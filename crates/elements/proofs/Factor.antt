@@ -37,33 +37,40 @@ scale-positive h = mul-pos (h .first) (omega arith)
 -- ---- the ranges
 
 module _ {f : Factor} (h : Proper f) {p : ℤ} (square : Square p) where
-  0≤-inner : pos 0 ≤ℤ inner f p
+  -- its two roundings, by the names that they have in the error below
+  abbrev r : ℤ
+  r = inner f p
+
+  abbrev g : ℤ
+  g = outer f p
+
+  0≤-inner : pos 0 ≤ℤ r
   0≤-inner = 0≤-near (h .over) (0≤-mul (0≤-pos (f .b)) (square .low))
 
-  inner-within : natAbs (inner f p) ≤ 2 ^ 28
+  inner-within : natAbs r ≤ 2 ^ 28
   inner-within = near-within (h .over) (pos (f .b) *ℤ p) (le-trans (le-of-eq (natAbs-* (pos (f .b)) p)) (mul-le-mul (h .under) (square .high)))
 
-  0≤-rest : pos 0 ≤ℤ (pos ONE -ℤ inner f p)
-  0≤-rest = omega (order, difference (pos ONE) (inner f p), parts (inner f p), inner-within)
+  0≤-rest : pos 0 ≤ℤ (pos ONE -ℤ r)
+  0≤-rest = omega (order, difference (pos ONE) r, parts r, inner-within)
 
-  rest-within : natAbs (pos ONE -ℤ inner f p) ≤ ONE
-  rest-within = omega (order, difference (pos ONE) (inner f p), parts (inner f p), parts (pos ONE -ℤ inner f p), 0≤-inner, inner-within)
+  rest-within : natAbs (pos ONE -ℤ r) ≤ ONE
+  rest-within = omega (order, difference (pos ONE) r, parts r, parts (pos ONE -ℤ r), 0≤-inner, inner-within)
 
-  0≤-outer : pos 0 ≤ℤ outer f p
+  0≤-outer : pos 0 ≤ℤ g
   0≤-outer = 0≤-near (scale-positive h) (0≤-mul (square .low) 0≤-rest)
 
-  outer-within : natAbs (outer f p) ≤ 2 ^ 28
+  outer-within : natAbs g ≤ 2 ^ 28
   outer-within =
-      near-within (scale-positive h) (p *ℤ (pos ONE -ℤ inner f p))
-      (omega (arith, natAbs-* p (pos ONE -ℤ inner f p), mul-le-mul (square .high) rest-within, h .first))
+      near-within (scale-positive h) (p *ℤ (pos ONE -ℤ r))
+      (omega (arith, natAbs-* p (pos ONE -ℤ r), mul-le-mul (square .high) rest-within, h .first))
 
   0≤-F : pos 0 ≤ℤ F f p
   unfolding F
-  0≤-F = omega (order, difference (pos ONE) (outer f p), parts (outer f p), outer-within)
+  0≤-F = omega (order, difference (pos ONE) g, parts g, outer-within)
 
   F≤ONE : F f p ≤ℤ pos ONE
   unfolding F
-  F≤ONE = omega (order, difference (pos ONE) (outer f p), 0≤-outer)
+  F≤ONE = omega (order, difference (pos ONE) g, 0≤-outer)
 
   pub F-within : natAbs (F f p) ≤ ONE
   F-within = omega (order, parts (F f p), 0≤-F, F≤ONE)

@@ -1,4 +1,4 @@
-"""Vectors for the program comparisons: f64 numbers as whole numbers, and run records after histories of calls."""
+"""Vectors for the program comparisons: f64 numbers as whole numbers, run records after histories of calls, and display pairs."""
 
 import random
 import struct
@@ -9,7 +9,7 @@ import crest
 from crest import ARC, ENTRY, EXIT, FRAME, OFFSET_LIMIT, ONE, Element, f64_bits
 from plain_files import altered, file_refusal, line, lines, patched, raw_file
 from random_crests import Wish, half_directions, random_file, random_point
-from rows import CALL, NOWHERE, NUMBER, STORE
+from rows import CALL, DISPLAY, LENT, NOTE, NOWHERE, NUMBER, STORE
 
 LARGE = 2**62
 NOT_WHOLE = 2**63 - 1
@@ -21,8 +21,11 @@ ODD = (0.5, -0.5, 1.5, 5e-324, 2.2250738585072014e-308, 1e300, -1e300, 2.0**53, 
 CRESTS = 32
 SLOT = STORE // CRESTS
 HISTORIES = 500
+HISTORIES_BY_VALUE = 100
+DISPLAYS = 20  # on each crest
 ROOM = 32
 PLANE, LINE_PLACE, ACKNOWLEDGE = 0, 1, 2
+NO_ANSWER, PLANE_POINT, PLACE, REFUSED = range(4)
 
 # ---------------------------------------------------------------------------
 # Numbers
@@ -181,35 +184,60 @@ def beginning(rng):
     return run + rng.randbytes(ROOM - len(run))
 
 
+def reading(rng, sort, alignment):
+    """The bits of a reading's two numbers."""
+    return plane_numbers(rng, alignment) if sort == PLANE else line_numbers(rng, alignment)
+
+
+def accepted(file):
+    """The alignment of a file, or None where the file is refused."""
+    found = crest.check(file)
+    return None if isinstance(found, crest.Refusal) else found
+
+
 def call(rng, files, few, state):
     """A call with one of a few crests on the run in these bytes: the crest's number, and the row's values."""
     sort = rng.choices((PLANE, LINE_PLACE, ACKNOWLEDGE), (45, 38, 17))[0]
     number = rng.choice(few)
     lent = 24 if rng.randrange(16) else rng.choice((0, 1, 22, 23, 25, 26, 31, 32))
     file = files[number]
-    found = crest.check(file)
-    alignment = None if isinstance(found, crest.Refusal) else found
-    if sort == PLANE:
-        one, two = plane_numbers(rng, alignment)
-        value, run = crest.crest_plane_reading(file, one, two, state[:lent])
-    elif sort == LINE_PLACE:
-        one, two = line_numbers(rng, alignment)
-        value, run = crest.crest_line_reading(file, one, two, state[:lent])
-    else:
+    if sort == ACKNOWLEDGE:
         one = two = number = 0
         value, run = crest.crest_acknowledge(state[:lent])
+    else:
+        one, two = reading(rng, sort, accepted(file))
+        take = crest.crest_plane_reading if sort == PLANE else crest.crest_line_reading
+        value, run = take(file, one, two, state[:lent])
     assert len(run) == lent
     return number, (sort, lent, value, one, two, run + state[lent:])
 
 
-def add_histories(rows):
-    rng = random.Random(8)
-    crest.check = cache(crest.check)  # the same few crests throughout
-    files = list(crests(rng))
-    found = [file_refusal(file)[0] for file in files]
-    assert set(found) == set(range(10)), found
-    assert len(files) == CRESTS
-    parts = [rows.lay(file, SLOT * number) for number, file in enumerate(files)]
+def came(file, sort, one, two, run):
+    """What a reading on a run by value comes to, and the run afterwards."""
+    made = crest.PlanePoint if sort == PLANE else crest.LinePlace
+    return crest.take_reading(run, crest.check(file), made(one, two))
+
+
+def bits_of_pair(pair):
+    return tuple(map(f64_bits, pair))
+
+
+def call_by_value(rng, files, few, run):
+    """A call with one of a few crests on this run: the crest's number, the row's values, and the run afterwards."""
+    sort = rng.choices((PLANE, LINE_PLACE, ACKNOWLEDGE), (45, 38, 17))[0]
+    number = rng.choice(few)
+    if sort == ACKNOWLEDGE:
+        one = two = number = 0
+        case, answer, run = NO_ANSWER, crest.ReadingAnswer(0, 0), crest.acknowledged(run)
+    else:
+        one, two = reading(rng, sort, accepted(files[number]))
+        answer, run = came(files[number], sort, one, two, run)
+        case = REFUSED if answer.number else PLANE_POINT if sort == PLANE else PLACE
+    head = sort, case, answer.number, answer.place, one, two, *answer.three, answer.count, crest.bytes_of_run(run)
+    return number, head, bits_of_pair(answer.display), run
+
+
+def add_histories(rows, rng, files, parts):
     for number in range(HISTORIES):
         state = beginning(rng)
         rows.begin(state)
@@ -220,6 +248,44 @@ def add_histories(rows):
             state = values[-1]
 
 
+def add_histories_by_value(rows, rng, files, parts):
+    """Each history on a run by value, and again on one that is lent."""
+    met = set()
+    for number in range(HISTORIES_BY_VALUE):
+        state = beginning(rng)
+        run = crest.run_of(state[:24])._replace(spare=0)
+        few = rng.sample(range(len(files)), rng.randint(1, 6))
+        history = []
+        for _ in range(1 + number % 25):
+            crest_number, head, shown, run = call_by_value(rng, files, few, run)
+            history.append((parts[crest_number], head, shown))
+            met.add(head[2])
+        rows.begin(state)
+        for part, head, shown in history:
+            rows.add(NOTE, part, *head, *shown)
+        rows.begin(state)
+        for part, head, _ in history:
+            rows.add(LENT, part, *head)
+    assert met == set(range(17)), met
+
+
+def add_displays(rows, rng, files, parts):
+    for file, part in zip(files, parts):
+        for number in range(DISPLAYS):
+            sort = PLANE if number % 4 else LINE_PLACE
+            one, two = reading(rng, sort, accepted(file))
+            answer, _ = came(file, sort, one, two, crest.FRESH)
+            rows.add(DISPLAY, part, sort, one, two, *bits_of_pair(answer.display))
+
+
 def add_rows(rows):
     add_numbers(rows)
-    add_histories(rows)
+    rng = random.Random(8)
+    crest.check = cache(crest.check)  # the same few crests throughout
+    files = list(crests(rng))
+    found = [file_refusal(file)[0] for file in files]
+    assert set(found) == set(range(10)), found
+    assert len(files) == CRESTS
+    parts = [rows.lay(file, SLOT * number) for number, file in enumerate(files)]
+    for add in (add_histories, add_histories_by_value, add_displays):
+        add(rows, rng, files, parts)

@@ -13,8 +13,15 @@ store, u16 each, and then
     CALL     for the crest file in that part: sort of the call, u8 (0 plane reading, 1 line reading, 2 acknowledgement);
              how many of the run's bytes are lent, u8; two zeros; the returned value, u32; the bits of both f64 numbers,
              u64; the run's bytes afterwards
+    NOTE     for the crest file in that part and the run by value: sort of the call, u8, as above; case of the answer, u8 (0
+             none, 1 plane point, 2 line place, 3 refused); refusal number and place, u16; two zeros; the bits of both f64
+             numbers, u64; station, offset, residual and visits, or X, Y and zeros, or zeros, i64; the run's 24 bytes
+             afterwards; the bits of the display pair, u64
+    LENT     the same on the run lent in place, without the display pair
+    DISPLAY  for the crest file in that part: sort of the reading, u8, as above; seven zeros; the bits of both f64 numbers
+             and of the display pair, u64
     BYTES    what that part is to hold from now on
-    RUN      what the run's bytes are to be from now on
+    RUN      what the run's bytes are to be from now on; the run by value is what the first 24 spell
 
 All little-endian. The part is empty where a row has no use for one.
 
@@ -25,7 +32,7 @@ of the right rows come after such a copy of themselves. The bits are taken in tu
 from collections import Counter
 from struct import Struct
 
-ELEMENT, FILE, POINT, NUMBER, CALL, BYTES, RUN = range(1, 8)
+ELEMENT, FILE, POINT, NUMBER, CALL, NOTE, LENT, DISPLAY, BYTES, RUN = range(1, 11)
 COUNT = Struct("<I")
 HEAD = Struct("<BBHH")
 LAYOUT = {
@@ -34,11 +41,23 @@ LAYOUT = {
     POINT: Struct("<qqqqIII"),
     NUMBER: Struct("<Qq"),
     CALL: Struct("<BBxxIQQ32s"),
+    NOTE: Struct("<BBHHxxQQqqqq24sQQ"),
+    LENT: Struct("<BBHHxxQQqqqq24s"),
+    DISPLAY: Struct("<BxxxxxxxQQQQ"),
     RUN: Struct("<32s"),
 }
 STORE = 65_536
 NOWHERE = 0, 0
-NAMES = {ELEMENT: "element rows", FILE: "crest files", POINT: "points", NUMBER: "numbers", CALL: "calls"}
+NAMES = {
+    ELEMENT: "element rows",
+    FILE: "crest files",
+    POINT: "points",
+    NUMBER: "numbers",
+    CALL: "calls",
+    NOTE: "calls by value",
+    LENT: "calls in place",
+    DISPLAY: "display pairs",
+}
 
 # What a row says, and not what it asks, by the starts and ends of its bytes; and how many right rows there are to a wrong one.
 SAID = {
@@ -47,9 +66,12 @@ SAID = {
     POINT: ((16, 44),),
     NUMBER: ((8, 16),),
     CALL: ((4, 8), (24, 56)),
+    NOTE: ((1, 6), (24, 96)),
+    LENT: ((1, 6), (24, 80)),
+    DISPLAY: ((24, 40),),
 }
-TO_A_WRONG_ONE = {ELEMENT: 20, FILE: 20, POINT: 8, NUMBER: 50, CALL: 20}
-ON_THE_RUN = (CALL,)
+TO_A_WRONG_ONE = {ELEMENT: 20, FILE: 20, POINT: 8, NUMBER: 50, CALL: 20, NOTE: 2, LENT: 2, DISPLAY: 5}
+RUN_AFTER = {CALL: (24, 56), NOTE: (56, 80), LENT: (56, 80)}
 
 
 def bits_said(sort):
@@ -99,7 +121,7 @@ class Rows:
         at, bit = bits[self.wrong[sort] % len(bits)]
         self.put(sort, part, row[:at] + bytes([row[at] ^ 1 << bit]) + row[at + 1 :], wrong=True)
         self.wrong[sort] += 1
-        if sort in ON_THE_RUN:
+        if sort in RUN_AFTER:
             self.begin(self.run)
 
     def add(self, sort, part, *values):
@@ -108,8 +130,9 @@ class Rows:
             self.add_wrong(sort, part, row)
         self.put(sort, part, row)
         self.right[sort] += 1
-        if sort in ON_THE_RUN:
-            self.run = values[-1]
+        if sort in RUN_AFTER:
+            start, end = RUN_AFTER[sort]
+            self.run = row[start:end] + self.run[end - start :]
 
     def written(self):
         for sort in SAID:

@@ -4,7 +4,7 @@ use mathlib.Core.Bool.{Bool, true, false, not, cond, _&&_}
 use mathlib.Core.List.{List, _++_}
 use lib.Dec.{eqb, leb}
 use lib.IntN.{ℤ, pos, negℤ}
-use lib.Ieee.{Float, binary64, ofBits}
+use lib.Ieee.{binary64, ofBits}
 use lib.ListN.{length, take, drop}
 use Rattle.model.specs.declared.Element.{Element}
 use Rattle.model.specs.declared.Point.{Point}
@@ -12,7 +12,7 @@ use Rattle.model.specs.declared.Outcome.{Outcome}
 use Rattle.model.specs.declared.Outcome.the-variants.{Done, Refused}
 use Rattle.model.specs.declared.Located.{Located}
 use Rattle.model.specs.declared.Located.the-variants.{At, Refused as LocatedRefused}
-use Rattle.model.specs.declared.Reading.the-variants.{PlanePoint, LinePlace}
+use Rattle.model.specs.declared.Run.{Run}
 use Rattle.model.specs.Records.{byteAt, u16At, u32At, recordSize}
 use Rattle.model.specs.Refusals.{verdict}
 use Rattle.model.specs.Acceptance.{elementOf, recordRules}
@@ -24,7 +24,9 @@ use Rattle.model.specs.Calls.{readingCall, acknowledgeCall}
 use Rattle.whole_numbers.specs.declared.WholeNumber.{WholeNumber}
 use Rattle.whole_numbers.specs.declared.WholeNumber.the-variants.{Is, Beyond, Not}
 use Rattle.whole_numbers.specs.WholeNumbers.{shortOf}
+use Rattle.comparisons.specs.declared.notes.Told.{Told}
 use Rattle.comparisons.specs.Said.{u64At, i64At, isAt}
+use Rattle.comparisons.specs.Notes.{planeOf, lineOf, byCall, noteAgrees, lentAgrees, displayAgrees}
 
 -- ---- ELEMENT
 
@@ -93,12 +95,7 @@ numberAgrees row = isAt row 8 (numberCode (shortOf (wholeOf (ofBits binary64 (u6
 unfoldable pub callOf : List ℕ → List ℕ → List ℕ → ℕ × List ℕ
 unfolding readingCall acknowledgeCall
 callOf row file lent =
-    let sort = byteAt row 0 in
-    let one = ofBits binary64 (u64At row 8) in
-    let two = ofBits binary64 (u64At row 16) in
-    cond (eqb sort 0) (readingCall (answerTo (fileCrest file) (PlanePoint one two)) lent)
-    (cond (eqb sort 1) (readingCall (answerTo (fileCrest file) (LinePlace one two)) lent)
-    (cond (eqb sort 2) (acknowledgeCall lent) (4294967295, lent)))
+    byCall row (readingCall (answerTo (fileCrest file) (planeOf row)) lent) (readingCall (answerTo (fileCrest file) (lineOf row)) lent) (acknowledgeCall lent) (4294967295, lent)
 
 -- whether the run's 32 bytes are the row's
 unfoldable pub runIs : List ℕ → List ℕ → Bool
@@ -126,11 +123,16 @@ runAfterCall row file run = cond (leb (byteAt row 1) (length run)) (calledOn row
 
 -- ---- a row of any sort
 
-unfoldable pub rowAgrees : ℕ → List ℕ → List ℕ → List ℕ → Bool
-unfolding recordAgrees fileAgrees pointAgrees numberAgrees callAgrees
-rowAgrees sort row part run =
-    cond (eqb sort 1) (recordAgrees row part)
-    (cond (eqb sort 2) (fileAgrees row part)
-    (cond (eqb sort 3) (pointAgrees row part)
-    (cond (eqb sort 4) (numberAgrees row)
-    (cond (eqb sort 5) (callAgrees row part run) false))))
+-- whether it agrees, and the run by value after it
+unfoldable pub rowAgrees : ℕ → List ℕ → List ℕ → List ℕ → Run → Told
+unfolding recordAgrees fileAgrees pointAgrees numberAgrees callAgrees noteAgrees lentAgrees displayAgrees
+rowAgrees sort row part bytes run =
+    let told : Bool → Told = λ same. record { same = same; run = run } in
+    cond (eqb sort 1) (told (recordAgrees row part))
+    (cond (eqb sort 2) (told (fileAgrees row part))
+    (cond (eqb sort 3) (told (pointAgrees row part))
+    (cond (eqb sort 4) (told (numberAgrees row))
+    (cond (eqb sort 5) (told (callAgrees row part bytes))
+    (cond (eqb sort 6) (noteAgrees row part run)
+    (cond (eqb sort 7) (lentAgrees row part run)
+    (cond (eqb sort 8) (told (displayAgrees row part)) (told false))))))))

@@ -5,31 +5,53 @@ use Rattle.comparisons.specs.Agreement.{rowAgrees}
 use Rattle.comparisons.proofs.agrees.Statement.{statement}
 use Rattle.comparisons.proofs.agrees.Tie as tie
 
-element : tie.Need-returns
+returns : tie.Need-returns
 unfolding rowAgrees
-element c = rw (c .before .match .keys1) (c .agrees .ensures)
+returns c = rw (c .before .match .keys1, c .agrees .ensures)
 
-file : tie.Need-returns-2
+returns-2 : tie.Need-returns-2
 unfolding rowAgrees
-file c = rw (c .before .match .keys2) (c .agrees2 .ensures)
+returns-2 c = rw (c .before .match .keys2, c .agrees2 .ensures)
 
-point : tie.Need-returns-3
+returns-3 : tie.Need-returns-3
 unfolding rowAgrees
-point c = rw (c .before .match .keys3) (c .agrees3 .ensures)
+returns-3 c = rw (c .before .match .keys3, c .agrees3 .ensures)
 
-number : tie.Need-returns-4
+returns-4 : tie.Need-returns-4
 unfolding rowAgrees
-number c = rw (c .before .match .keys4) (c .agrees4 .ensures)
+returns-4 c = rw (c .before .match .keys4, c .agrees4 .ensures)
 
-call : tie.Need-returns-5
+returns-5 : tie.Need-returns-5
 unfolding rowAgrees
-call c = let k = c .before .before in rw (k .before .before .match .keys5) (k .agrees5 .ensures .0)
+returns-5 c = let k = c .before .before in rw (k .before .before .match .keys5, k .agrees5 .ensures .0)
 
-other : tie.Need-returns-6
+returns-6 : tie.Need-returns-6
 unfolding rowAgrees
-other c =
-    let r = c .match .rest in
-    rw (ne-eqb _ 1 (r .0 .0 .0 .0 .1), ne-eqb _ 2 (r .0 .0 .0 .1), ne-eqb _ 3 (r .0 .0 .1), ne-eqb _ 4 (r .0 .1), ne-eqb _ 5 (r .1))
+returns-6 c = rw (c .before .match .keys6) (c .agrees6 .ensures)
+
+returns-7 : tie.Need-returns-7
+unfolding rowAgrees
+returns-7 c = rw (c .before .match .keys7) (c .agrees7 .ensures)
+
+returns-8 : tie.Need-returns-8
+unfolding rowAgrees
+returns-8 c = rw (c .before .match .keys8, c .agrees8 .ensures)
+
+returns-9 : tie.Need-returns-9
+unfolding rowAgrees
+returns-9 c =
+    let s = c .match .rest in
+    let r = s .0 .0 .0 in
+    rw (
+      ne-eqb _ 1 (r .0 .0 .0 .0 .1),
+      ne-eqb _ 2 (r .0 .0 .0 .1),
+      ne-eqb _ 3 (r .0 .0 .1),
+      ne-eqb _ 4 (r .0 .1),
+      ne-eqb _ 5 (r .1),
+      ne-eqb _ 6 (s .0 .0 .1),
+      ne-eqb _ 7 (s .0 .1),
+      ne-eqb _ 8 (s .1),
+    )
 
 pub agrees-spec : {M : Type 1} → statement M
 agrees-spec =
@@ -40,10 +62,16 @@ agrees-spec =
     (λ c κs. search needs)
     (λ c κs. search needs)
     (λ c κs. search needs)
-    element
-    file
-    point
-    number
+    (λ c κs. search needs)
+    (λ c κs. search needs)
+    (λ c κs. search needs)
+    returns
+    returns-2
+    returns-3
+    returns-4
     (λ c. search needs)
-    call
-    other)
+    returns-5
+    returns-6
+    returns-7
+    returns-8
+    returns-9)

@@ -18,7 +18,7 @@ use Rattle.model.proofs.InSteps.{one-done, one-refused}
 use Rattle.crestfile.proofs.WriterRules.{rulesButRoom, writer-done}
 use Rattle.sources.specs.declared.Form.the-variants.{Row}
 use Rattle.sources.specs.Sources.{layoutRules, recordsIn, crestIn}
-use Rattle.sources.proofs.Records.{records-fit}
+use Rattle.sources.proofs.FormRecords.{records-fit}
 use Rattle.sources.proofs.Sound.{rules-accepted}
 
 module _ (records : List ℕ) (room : ℕ) where

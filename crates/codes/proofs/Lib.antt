@@ -1,4 +1,4 @@
 -- The laws that belong to no one function.
 pub mod Codes
-pub mod Widths
-pub mod Readings
+pub mod Casts
+pub mod QuestionCodes

@@ -12,13 +12,13 @@ use Rattle.model.specs.Refusals.{lastNumber}
 use Rattle.model.specs.Answers.{PaperAnswer, paperOfMove}
 
 -- an answer or a refusal whose number is one of the table's, and whose place is a block or a record of a crest
-pub record Small (p : PaperAnswer) : Type 0 where
+pub record Codable (p : PaperAnswer) : Type 0 where
   pub number : p .number ≤ lastNumber
   pub place : p .place ≤ mostRecords
 
--- a move whose two values are numbers of 32 bits, or a small refusal
+-- a move whose two values are numbers of 32 bits, or a refusal that has a code
 pub record Movable (m : Move) : Type 0 where
-  pub coded : Small (paperOfMove m)
+  pub coded : Codable (paperOfMove m)
   pub values : {forward left : ℤ} → m ≡ By forward left → SFits w32 forward × SFits w32 left
 
 -- two i32, one after the other at any place: 4 is the bytes of an i32, as in `i32Bytes`

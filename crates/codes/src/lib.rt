@@ -14,11 +14,11 @@ ghost use mir.Val.{SFits};
 ghost use Rattle.model.specs.Answers.{code, refusedWith, paperOfOutcome, paperOfMove};
 ghost use Rattle.model.specs.Readings.{paperOfReading};
 ghost use Rattle.model.specs.Calls.{moveSize, moveBytes};
-ghost use Rattle.codes.specs.Codes.{Small, Movable, putTwo};
+ghost use Rattle.codes.specs.Codes.{Codable, Movable, putTwo};
 
 // A refusal's number plus 256 times its place.
 pub fn code_of(why: Refusal) -> u32
-    requires { ⌜ Small (refusedWith why 0) ⌝ }
+    requires { ⌜ Codable (refusedWith why 0) ⌝ }
     ensures { λ r. ⌜ r ≡ code (refusedWith why 0) ⌝ }
 {
     why.number + refusals::PLACE_UNIT * why.place
@@ -26,7 +26,7 @@ pub fn code_of(why: Refusal) -> u32
 
 // 0 where nothing is refused.
 pub fn outcome_code(outcome: Outcome) -> u32
-    requires { ⌜ Small (paperOfOutcome outcome) ⌝ }
+    requires { ⌜ Codable (paperOfOutcome outcome) ⌝ }
     ensures { λ r. ⌜ r ≡ code (paperOfOutcome outcome) ⌝ }
 {
     match outcome {
@@ -37,7 +37,7 @@ pub fn outcome_code(outcome: Outcome) -> u32
 
 // 0 for an answer of either sort.
 pub fn answer_code(answer: ReadingAnswer) -> u32
-    requires { ⌜ Small (paperOfReading 0 answer) ⌝ }
+    requires { ⌜ Codable (paperOfReading 0 answer) ⌝ }
     ensures { λ r. ⌜ r ≡ code (paperOfReading 0 answer) ⌝ }
 {
     match answer {

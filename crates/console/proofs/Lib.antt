@@ -1,2 +1,2 @@
 -- The turns of the loop over the readings.
-mod Turns
+mod ReadingTurns

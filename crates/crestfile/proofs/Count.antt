@@ -11,7 +11,7 @@ use Rattle.model.specs.Refusals.{verdict}
 use Rattle.model.specs.Acceptance.{blocksRules}
 use Rattle.crestfile.proofs.Seams.{u16-after}
 use Rattle.crestfile.proofs.Blocks.{Blocks, last, next, last-in-use, file-length, records-count}
-use Rattle.crestfile.proofs.Crest.{crest-blocks, blocks→crest}
+use Rattle.crestfile.proofs.SoundFile.{sound-file-blocks, blocks→sound-file}
 
 -- the records of m blocks
 abbrev counted : ℕ → List ℕ → ℕ
@@ -41,8 +41,8 @@ pub record Counted (file : List ℕ) : Type 0 where
 
 pub blocks→counted : (file : List ℕ) → verdict (blocksRules file) ≡ Done → Counted file
 blocks→counted file e =
-    let c = blocks→crest file e in
-    let n = crest-blocks c in
+    let c = blocks→sound-file file e in
+    let n = sound-file-blocks c in
     let long = file-length (c .row) in
     let rows = row-counted (c .row) in
     let (k, size, fill) = records-count (c .row) in

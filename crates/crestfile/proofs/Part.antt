@@ -14,7 +14,7 @@ use Rattle.model.specs.Acceptance.{blocksRules}
 use Rattle.fields.proofs.PartsOf.{length-part}
 use Rattle.crestfile.proofs.Seams.{part-before, part-after}
 use Rattle.crestfile.proofs.Blocks.{Blocks, last, next, last-in-use, file-length, records-count}
-use Rattle.crestfile.proofs.Crest.{blocks→crest, accepted→blocks}
+use Rattle.crestfile.proofs.SoundFile.{blocks→sound-file, accepted→blocks}
 
 -- ---- where a record starts
 
@@ -70,7 +70,7 @@ row-within row r h =
 
 pub record-within : (file : List ℕ) (r : ℕ) → verdict (blocksRules file) ≡ Done → r < countOf (recordBytes file) → (part file (recordStart r) 32 ≡ recordOf (recordBytes file) r) × (recordStart r + 32 ≤ length file) × (length (part file (recordStart r) 32) ≡ 32)
 record-within file r e h =
-    let c = blocks→crest file e in
+    let c = blocks→sound-file file e in
     let i : 32 * r + 32 ≤ length (recordBytes file) = omega arith in
     let k = row-within (c .row) r i in
     (row-part (c .row) r i, k, length-part file (recordStart r) 32 k)

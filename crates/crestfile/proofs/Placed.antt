@@ -15,7 +15,7 @@ use Rattle.model.specs.Records.{mostRecords, blockCount, countOf, recordOf}
 use Rattle.model.specs.Acceptance.{elementAt, lengthFits, recordRules, joinRules, eachRecord, eachJoin, recordsRules, sumRules, fieldRules, blocksRules}
 use Rattle.model.proofs.Verdict.{verdict-after, refused-before, done→all}
 use Rattle.model.proofs.ForEach.{holds-one}
-use Rattle.crestfile.proofs.Crest.{fits→sized}
+use Rattle.crestfile.proofs.SoundFile.{fits→blocks}
 
 -- ---- orders of refusals
 
@@ -64,7 +64,7 @@ module _ (file : List ℕ) where
   fields-placed b h = rule-placed _ [] h (λ d. none-placed)
 
   few-blocks : verdict (rule₀ byteCount (lengthFits (length file)) ∷ []) ≡ Done → blockCount file ≤ 4
-  few-blocks d = fits→sized (length file) (holds-one (done→all _ d)) .atMost
+  few-blocks d = fits→blocks (length file) (holds-one (done→all _ d)) .atMost
 
   pub blocks-placed : PlacedOrder (blocksRules file)
   unfolding blocksRules

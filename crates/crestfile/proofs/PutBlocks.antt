@@ -28,7 +28,7 @@ block-part records from to e h =
     rw i (take-min 480 (drop from records))
 
 -- the first b blocks of the file stand at the front of the room
-pub record Written (records room₀ room : List ℕ) (b : ℕ) : Type 0 where
+pub record BlocksWritten (records room₀ room : List ℕ) (b : ℕ) : Type 0 where
   pub blocks : List ℕ
   pub within : b ≤ blocksNeeded records
   pub size : length blocks ≡ 512 * b
@@ -37,13 +37,13 @@ pub record Written (records room₀ room : List ℕ) (b : ℕ) : Type 0 where
   pub rest : fileOf records ≡ blocks ++ blocksFrom (blocksNeeded records - b) b (drop (480 * b) records)
 
 module _ (records room₀ : List ℕ) where
-  pub none-written : Written records room₀ room₀ 0
+  pub none-written : BlocksWritten records room₀ room₀ 0
   unfolding fileOf
   none-written =
       let e : blocksNeeded records - 0 ≡ blocksNeeded records = omega arith in
       record { blocks = []; within = omega arith; size = omega arith; same = refl; here = sym (put-none room₀ 0); rest = rw e }
 
-  pub one-more-written : (c : ℕ) {room after : List ℕ} {b : ℕ} → length records ≡ 32 * c → 512 * blocksNeeded records ≤ length room₀ → b < blocksNeeded records → after ≡ put room (512 * b) (block b (take 480 (drop (480 * b) records))) → Written records room₀ room b → Written records room₀ after (b + 1)
+  pub one-more-written : (c : ℕ) {room after : List ℕ} {b : ℕ} → length records ≡ 32 * c → 512 * blocksNeeded records ≤ length room₀ → b < blocksNeeded records → after ≡ put room (512 * b) (block b (take 480 (drop (480 * b) records))) → BlocksWritten records room₀ room b → BlocksWritten records room₀ after (b + 1)
   unfolding blocksFrom
   one-more-written c {room} {after} {b} long fits h e w =
       let mine = take 480 (drop (480 * b) records) in
@@ -63,7 +63,7 @@ module _ (records room₀ : List ℕ) where
         rest = rw (step, drop-drop 480 (480 * b) records, later) at (w .rest) ∙ sym (append-assoc (w .blocks) (block b mine) _);
       }
 
-  pub all-written : {room : List ℕ} {b : ℕ} → blocksNeeded records ≤ b → Written records room₀ room b → room ≡ put room₀ 0 (fileOf records)
+  pub all-written : {room : List ℕ} {b : ℕ} → blocksNeeded records ≤ b → BlocksWritten records room₀ room b → room ≡ put room₀ 0 (fileOf records)
   unfolding blocksFrom
   all-written {room} {b} h w =
       let e : blocksNeeded records - b ≡ 0 = omega arith in

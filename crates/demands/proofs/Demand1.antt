@@ -46,7 +46,7 @@ use Rattle.fields.proofs.Bytes.{AllBytes}
 use Rattle.sources.proofs.Sound.{file-sound}
 use Rattle.readings.proofs.Storable.{answer-storable}
 use Rattle.demands.proofs.Histories.{ReadingsFit, bytes-spelled, bytes-follow-run, bytes-show-run, bytes-show-demanded, history-keeps, fresh-bytes-keep}
-use Rattle.demands.proofs.Lent.{Lending, Within, roomAfterAll, onRun, lent-history}
+use Rattle.demands.proofs.Lendings.{Lending, LentWithin, roomAfterAll, onRun, lent-history}
 
 -- ---- "Any bytes .. end in an answer or in a numbered refusal from the table."
 
@@ -393,7 +393,7 @@ pub zero-stays : (cs : List Call) (run : List ℕ) → (byteAt (bytesAfterCalls 
 zero-stays cs run = let k = history-keeps cs run in (k .tenth, k .eleventh)
 
 -- The same where the run lies at the front of a longer room, of which each call is lent any number of bytes: those lent other than 24 leave no trace.
-module _ (cs : List Lending) (rest : List ℕ) (within : Within (length (freshBytes ++ rest)) cs) where
+module _ (cs : List Lending) (rest : List ℕ) (within : LentWithin (length (freshBytes ++ rest)) cs) where
   pub fresh-room-bytes : (take 24 (roomAfterAll cs (freshBytes ++ rest)) ≡ bytesAfterCalls (onRun cs) freshBytes) × (drop 24 (roomAfterAll cs (freshBytes ++ rest)) ≡ rest)
   fresh-room-bytes =
       let lent = lent-history cs (freshBytes ++ rest) (omega (arith, length-append freshBytes rest)) within in

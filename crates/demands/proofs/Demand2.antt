@@ -23,7 +23,7 @@ use Rattle.model.specs.Writer.{fileOf, writerOutcome, roomAfter, written}
 use Rattle.model.specs.Answers.{readerOutcome, spanIf, readerSpan, readerPart}
 use Rattle.model.proofs.Verdict.{verdict-after}
 use Rattle.elements.proofs.Bound as bound
-use Rattle.stations.proofs.StationAt.{at-reachable}
+use Rattle.stations.proofs.StationAt.{at-accepted}
 use Rattle.fields.proofs.Bytes.{AllBytes}
 use Rattle.demands.proofs.WrittenThenRead as writing
 use Rattle.crestfile.proofs.WriterRules.{writer-done}
@@ -40,7 +40,7 @@ bounded = bound.bounded
 
 -- at every station of an accepted alignment, on the element there
 pub bounded-at : (es : List Element) → AlignmentAccepted es → (s : ℕ) → s ≤ total es → let at = atStation es s in Bounded (at .element) (at .s)
-bounded-at es a s h = let g = at-reachable es s (a .some) (a .each) h in bounded _ (g .accepted) _ (g .within)
+bounded-at es a s h = let g = at-accepted es s (a .some) (a .each) h in bounded _ (g .accepted) _ (g .within)
 
 -- so of an accepted crest of any source
 pub crest-bounded-at : (c : Crest) → SoundCrest c → checkOf c ≡ Done → (s : ℕ) → s ≤ total (c .elements) → let at = atStation (c .elements) s in Bounded (at .element) (at .s)

@@ -1,7 +1,7 @@
 -- The run record under any history of calls.
 pub mod Events
 pub mod Histories
-pub mod Lent
+pub mod Lendings
 pub mod WrongRuns
 -- The crest file: what is written reads back, and what is read is written again.
 pub mod WrittenThenRead

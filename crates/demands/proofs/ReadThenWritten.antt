@@ -18,19 +18,19 @@ use Rattle.records.proofs.RecordBytes.{record-same, each-same}
 use Rattle.crestfile.proofs.WriterRules.{rulesButRoom, writer-done}
 use Rattle.demands.proofs.WrittenThenRead.{written-then-read}
 use Rattle.crestfile.proofs.Blocks.{rewritten}
-use Rattle.crestfile.proofs.Crest.{Crest, accepted→crest, count-fits, crest-count}
+use Rattle.crestfile.proofs.SoundFile.{SoundFile, accepted→sound-file, count-fits, sound-file-count}
 use Rattle.model.proofs.ForEach.{append-all, all→each}
 use Rattle.crestfile.proofs.Part.{record-part}
 
-crest-file : {file records : List ℕ} → AllBytes file → Crest file records → fileOf records ≡ file
+crest-file : {file records : List ℕ} → AllBytes file → SoundFile file records → fileOf records ≡ file
 unfolding fileOf
-crest-file {records = records} bytes c = ap (λ n. blocksFrom n 0 records) (crest-count c .1) ∙ rewritten (c .row) bytes
+crest-file {records = records} bytes c = ap (λ n. blocksFrom n 0 records) (sound-file-count c .1) ∙ rewritten (c .row) bytes
 
 -- The writer's rules refuse nothing of an accepted file's records, and the file of these records is that file.
 pub read-then-written : (file : List ℕ) → AllBytes file → checkOf (fileCrest file) ≡ Done → (verdict (rulesButRoom (recordBytes file)) ≡ Done) × (fileOf (recordBytes file) ≡ file)
 read-then-written file bytes e =
-    let (c, a) = accepted→crest file e in
-    (all→done (more (crest-count c .0) a), crest-file bytes c)
+    let (c, a) = accepted→sound-file file e in
+    (all→done (more (sound-file-count c .0) a), crest-file bytes c)
 
 -- So the writer, given an accepted file's records and room for the file, leaves the file in it.
 pub written-again : (file room : List ℕ) → AllBytes file → checkOf (fileCrest file) ≡ Done → length file ≤ length room → written (recordBytes file) room ≡ put room 0 file
@@ -50,8 +50,8 @@ one-file file other b₁ b₂ e₁ e₂ same =
 pub records-of-elements : (file : List ℕ) → AllBytes file → checkOf (fileCrest file) ≡ Done → elementsBytes (crestElements file) ≡ recordBytes file
 unfolding crestElements elementsOf recordsRules eachRecord elementAt
 records-of-elements file b e =
-    let (crest, rules) = accepted→crest file e in
-    let fits = count-fits (length bytes) .0 (crest-count crest .0) in
+    let (crest, rules) = accepted→sound-file file e in
+    let fits = count-fits (length bytes) .0 (sound-file-count crest .0) in
     let each = all→each own (countOf bytes) 0 (append-all (forEach own (countOf bytes) 0) rules .0) in
     each-same (countOf bytes) 0 bytes (λ k h. one k (omega arith) (rw zero-add at (each k (omega arith)))) ∙ take-all (32 * countOf bytes) bytes (omega arith)
   where

@@ -61,8 +61,8 @@ abbrev pub BothWhole : Float → Float → Type 0
 BothWhole x y = (isWhole (wholeOf x) ≡ true) × (isWhole (wholeOf y) ≡ true)
 
 -- the point of two whole numbers
-abbrev pub pointOf : Float → Float → Point
-pointOf x y = record { x = valueOf (wholeOf x); y = valueOf (wholeOf y) }
+abbrev pub pointRead : Float → Float → Point
+pointRead x y = record { x = valueOf (wholeOf x); y = valueOf (wholeOf y) }
 
 -- station and offset are in range, and the point there lies outside the frame
 abbrev pub OutsideAsked : List Element → ℤ → ℤ → Type 0
@@ -160,16 +160,16 @@ module _ (c : Crest) (own : Gives isOwn (c .rules)) (x y : Float) where
   w = valueOf (wholeOf y)
 
   -- of whole numbers it is refused as the point or the place of these numbers is
-  pub point-refused-as : (why : Refusal) → isOwn (why .number) ≡ false → why .number ≢ 10 → (answerTo c (PlanePoint x y) ≡ AnswerRefused why) ↔ (BothWhole x y × (located c (pointOf x y) ≡ LocatedRefused why))
+  pub point-refused-as : (why : Refusal) → isOwn (why .number) ≡ false → why .number ≢ 10 → (answerTo c (PlanePoint x y) ≡ AnswerRefused why) ↔ (BothWhole x y × (located c (pointRead x y) ≡ LocatedRefused why))
   unfolding readingQuestion
-  point-refused-as = refused-as c x y own fromLocated _ (point-tells (pointOf x y) es) (reading-tells (PlanePoint x y) es)
+  point-refused-as = refused-as c x y own fromLocated _ (point-tells (pointRead x y) es) (reading-tells (PlanePoint x y) es)
 
   pub place-refused-as : (why : Refusal) → isOwn (why .number) ≡ false → why .number ≢ 10 → (answerTo c (LinePlace x y) ≡ AnswerRefused why) ↔ (BothWhole x y × (inverse c s w ≡ InverseRefused why))
   unfolding readingQuestion
   place-refused-as = refused-as c x y own fromInverse _ (place-tells s w es) (reading-tells (LinePlace x y) es)
 
   -- and comes to what that does
-  pub point-reading : BothWhole x y → answerTo c (PlanePoint x y) ≡ fromLocated (located c (pointOf x y))
+  pub point-reading : BothWhole x y → answerTo c (PlanePoint x y) ≡ fromLocated (located c (pointRead x y))
   unfolding readingQuestion pointQuestion fromLocated
   point-reading = came-as c x y fromLocated _ (λ why. refl)
 
@@ -179,9 +179,9 @@ module _ (c : Crest) (own : Gives isOwn (c .rules)) (x y : Float) where
 
   -- "A point that meets no refusal is answered, and the station answered is the one judged.", of a plane reading
   pub reading-answered : (station : ℕ) (offset residual : ℤ) (count : ℕ) → (answerTo c (PlanePoint x y) ≡ AnswerPoint station offset residual count)
-      ↔ ((checkOf c ≡ Done) × BothWhole x y × Answered (c .elements) (pointOf x y) station offset residual count)
+      ↔ ((checkOf c ≡ Done) × BothWhole x y × Answered (c .elements) (pointRead x y) station offset residual count)
   reading-answered station offset residual count =
-      let p = pointOf x y in
+      let p = pointRead x y in
       let at = crest-answered c own p station offset residual count in (
         (λ e.
             let on = told-answer (point-tells p es) (c .rules ++ numberRules x y) {a = LocatedAt station offset residual count} (λ why f. clash cc) (from-answered _ .0 (sym (plane-asked (c .rules) x y es) ∙ e)) in
@@ -195,7 +195,7 @@ module _ (c : Crest) (own : Gives isOwn (c .rules)) (x y : Float) where
   pub point-refused-own : (why : Refusal) → isOwn (why .number) ≡ true → (answerTo c (PlanePoint x y) ≡ AnswerRefused why) ↔ (checkOf c ≡ Refused why)
   unfolding readingQuestion pointQuestion pointRules number isOwn
   point-refused-own why k =
-      refused-own c x y own fromLocated _ (point-tells (pointOf x y) es) (reading-tells (PlanePoint x y) es) why k
+      refused-own c x y own fromLocated _ (point-tells (pointRead x y) es) (reading-tells (PlanePoint x y) es) why k
       (other (not-own outsideFrame k refl) (other (not-own tooFar k refl) (other (not-own beforeStart k refl) (other (not-own afterEnd k refl) empty))))
 
   pub place-refused-own : (why : Refusal) → isOwn (why .number) ≡ true → (answerTo c (LinePlace x y) ≡ AnswerRefused why) ↔ (checkOf c ≡ Refused why)
@@ -215,7 +215,7 @@ module _ (c : Crest) (own : Gives isOwn (c .rules)) (x y : Float) where
   unfolding readingQuestion pointQuestion pointRules number
   point-not-out-of-range why e =
       let later = own-apart (why .number) (omega arith) (omega arith) in
-      never-refused c x y own fromLocated _ (point-tells (pointOf x y) es) (reading-tells (PlanePoint x y) es) why later (λ f. omega arith)
+      never-refused c x y own fromLocated _ (point-tells (pointRead x y) es) (reading-tells (PlanePoint x y) es) why later (λ f. omega arith)
       (other (λ f. omega arith) (other (λ f. omega arith) (other (λ f. omega arith) (other (λ f. omega arith) empty))))
 
   -- ---- 10: "a reading's number not finite or not whole"
@@ -223,7 +223,7 @@ module _ (c : Crest) (own : Gives isOwn (c .rules)) (x y : Float) where
   pub point-refused-10 : (answerTo c (PlanePoint x y) ≡ AnswerRefused (refusal notWhole 0)) ↔ ((checkOf c ≡ Done) × ((wholeOf x ≡ none) ⊎ (wholeOf y ≡ none)))
   unfolding readingQuestion pointQuestion pointRules number
   point-refused-10 =
-      refused-10 c x y own fromLocated _ (point-tells (pointOf x y) es) (reading-tells (PlanePoint x y) es) (other (omega arith) (other (omega arith) (other (omega arith) (other (omega arith) empty))))
+      refused-10 c x y own fromLocated _ (point-tells (pointRead x y) es) (reading-tells (PlanePoint x y) es) (other (omega arith) (other (omega arith) (other (omega arith) (other (omega arith) empty))))
 
   pub place-refused-10 : (answerTo c (LinePlace x y) ≡ AnswerRefused (refusal notWhole 0)) ↔ ((checkOf c ≡ Done) × ((wholeOf x ≡ none) ⊎ (wholeOf y ≡ none)))
   unfolding readingQuestion placeQuestion lineRules number
@@ -232,27 +232,27 @@ module _ (c : Crest) (own : Gives isOwn (c .rules)) (x y : Float) where
   -- ---- 11 to 15 of a reading on a crest
 
   -- of a plane point: 11, 12, 13 and 14, where the crest is accepted and both numbers are whole
-  point-given : (why : Reason) {C : Type 0} → isOwn (number why) ≡ false → number why ≢ 10 → ((located c (pointOf x y) ≡ LocatedRefused (refusal why 0)) ↔ ((checkOf c ≡ Done) × C)) →
+  point-given : (why : Reason) {C : Type 0} → isOwn (number why) ≡ false → number why ≢ 10 → ((located c (pointRead x y) ≡ LocatedRefused (refusal why 0)) ↔ ((checkOf c ≡ Done) × C)) →
       (answerTo c (PlanePoint x y) ≡ AnswerRefused (refusal why 0)) ↔ ((checkOf c ≡ Done) × BothWhole x y × C)
   unfolding readingQuestion
-  point-given = given-as c x y own fromLocated _ (point-tells (pointOf x y) es) (reading-tells (PlanePoint x y) es)
+  point-given = given-as c x y own fromLocated _ (point-tells (pointRead x y) es) (reading-tells (PlanePoint x y) es)
 
   pub reading-refused-11 : (answerTo c (PlanePoint x y) ≡ AnswerRefused (refusal outsideFrame 0))
       ↔ ((checkOf c ≡ Done) × BothWhole x y × (inFrame (valueOf (wholeOf x)) (valueOf (wholeOf y)) ≡ false))
   unfolding number isOwn
-  reading-refused-11 = point-given outsideFrame refl (λ e. omega arith) (crest-outside-frame c own (pointOf x y))
+  reading-refused-11 = point-given outsideFrame refl (λ e. omega arith) (crest-outside-frame c own (pointRead x y))
 
-  pub reading-refused-12 : (answerTo c (PlanePoint x y) ≡ AnswerRefused (refusal tooFar 0)) ↔ ((checkOf c ≡ Done) × BothWhole x y × TooFar (c .elements) (pointOf x y))
+  pub reading-refused-12 : (answerTo c (PlanePoint x y) ≡ AnswerRefused (refusal tooFar 0)) ↔ ((checkOf c ≡ Done) × BothWhole x y × TooFar (c .elements) (pointRead x y))
   unfolding number isOwn
-  reading-refused-12 = point-given tooFar refl (λ e. omega arith) (crest-too-far c own (pointOf x y))
+  reading-refused-12 = point-given tooFar refl (λ e. omega arith) (crest-too-far c own (pointRead x y))
 
-  pub reading-refused-13 : (answerTo c (PlanePoint x y) ≡ AnswerRefused (refusal beforeStart 0)) ↔ ((checkOf c ≡ Done) × BothWhole x y × BeforeStart (c .elements) (pointOf x y))
+  pub reading-refused-13 : (answerTo c (PlanePoint x y) ≡ AnswerRefused (refusal beforeStart 0)) ↔ ((checkOf c ≡ Done) × BothWhole x y × BeforeStart (c .elements) (pointRead x y))
   unfolding number isOwn
-  reading-refused-13 = point-given beforeStart refl (λ e. omega arith) (crest-before-start c own (pointOf x y))
+  reading-refused-13 = point-given beforeStart refl (λ e. omega arith) (crest-before-start c own (pointRead x y))
 
-  pub reading-refused-14 : (answerTo c (PlanePoint x y) ≡ AnswerRefused (refusal afterEnd 0)) ↔ ((checkOf c ≡ Done) × BothWhole x y × AfterEnd (c .elements) (pointOf x y))
+  pub reading-refused-14 : (answerTo c (PlanePoint x y) ≡ AnswerRefused (refusal afterEnd 0)) ↔ ((checkOf c ≡ Done) × BothWhole x y × AfterEnd (c .elements) (pointRead x y))
   unfolding number isOwn
-  reading-refused-14 = point-given afterEnd refl (λ e. omega arith) (crest-after-end c own (pointOf x y))
+  reading-refused-14 = point-given afterEnd refl (λ e. omega arith) (crest-after-end c own (pointRead x y))
 
   -- of a line place: 15, and 11 of the resulting point
   place-given : (why : Reason) {C : Type 0} → isOwn (number why) ≡ false → number why ≢ 10 → ((inverse c s w ≡ InverseRefused (refusal why 0)) ↔ ((checkOf c ≡ Done) × C)) →
@@ -319,15 +319,15 @@ module _ (c : Crest) (sound : SoundCrest c) (x y : Float) (run : List ℕ) where
   unfolding number
   plane-call-refused-11 = call-given (reading c sound (PlanePoint x y)) run outsideFrame (λ e. omega arith) (λ e. omega arith) (reading-refused-11 c (sound .own) x y)
 
-  pub plane-call-refused-12 : (readingCall (answerTo c (PlanePoint x y)) run .0 ≡ 12) ↔ ((length run ≡ 24) × (isFull (runAt run) ≡ false) × ((checkOf c ≡ Done) × BothWhole x y × TooFar (c .elements) (pointOf x y)))
+  pub plane-call-refused-12 : (readingCall (answerTo c (PlanePoint x y)) run .0 ≡ 12) ↔ ((length run ≡ 24) × (isFull (runAt run) ≡ false) × ((checkOf c ≡ Done) × BothWhole x y × TooFar (c .elements) (pointRead x y)))
   unfolding number
   plane-call-refused-12 = call-given (reading c sound (PlanePoint x y)) run tooFar (λ e. omega arith) (λ e. omega arith) (reading-refused-12 c (sound .own) x y)
 
-  pub plane-call-refused-13 : (readingCall (answerTo c (PlanePoint x y)) run .0 ≡ 13) ↔ ((length run ≡ 24) × (isFull (runAt run) ≡ false) × ((checkOf c ≡ Done) × BothWhole x y × BeforeStart (c .elements) (pointOf x y)))
+  pub plane-call-refused-13 : (readingCall (answerTo c (PlanePoint x y)) run .0 ≡ 13) ↔ ((length run ≡ 24) × (isFull (runAt run) ≡ false) × ((checkOf c ≡ Done) × BothWhole x y × BeforeStart (c .elements) (pointRead x y)))
   unfolding number
   plane-call-refused-13 = call-given (reading c sound (PlanePoint x y)) run beforeStart (λ e. omega arith) (λ e. omega arith) (reading-refused-13 c (sound .own) x y)
 
-  pub plane-call-refused-14 : (readingCall (answerTo c (PlanePoint x y)) run .0 ≡ 14) ↔ ((length run ≡ 24) × (isFull (runAt run) ≡ false) × ((checkOf c ≡ Done) × BothWhole x y × AfterEnd (c .elements) (pointOf x y)))
+  pub plane-call-refused-14 : (readingCall (answerTo c (PlanePoint x y)) run .0 ≡ 14) ↔ ((length run ≡ 24) × (isFull (runAt run) ≡ false) × ((checkOf c ≡ Done) × BothWhole x y × AfterEnd (c .elements) (pointRead x y)))
   unfolding number
   plane-call-refused-14 = call-given (reading c sound (PlanePoint x y)) run afterEnd (λ e. omega arith) (λ e. omega arith) (reading-refused-14 c (sound .own) x y)
 

@@ -14,9 +14,9 @@ use Rattle.model.specs.Writer.{blocksNeeded, fileOf, countFits}
 use Rattle.model.proofs.Verdict.{AllHold, more, done→all}
 use Rattle.crestfile.proofs.WriterRules.{rulesButRoom}
 use Rattle.crestfile.proofs.Blocks.{file-length, records-row}
-use Rattle.crestfile.proofs.Crest.{Crest, crest-records, crest→accepted, count-fits, crest-count}
+use Rattle.crestfile.proofs.SoundFile.{SoundFile, sound-file-records, sound-file→accepted, count-fits, sound-file-count}
 
-file-crest : (records : List ℕ) → countFits (length records) ≡ true → Crest (fileOf records) records
+file-crest : (records : List ℕ) → countFits (length records) ≡ true → SoundFile (fileOf records) records
 unfolding fileOf
 file-crest records h =
     let fit = count-fits (length records) .0 h in
@@ -35,4 +35,4 @@ written-then-read records e = go (done→all (rulesButRoom records) e)
     go : AllHold (rulesButRoom records) → (checkOf (fileCrest (fileOf records)) ≡ Done) × (recordBytes (fileOf records) ≡ records) × (length (fileOf records) ≡ 512 * blocksNeeded records)
     go (more h a) =
         let c = file-crest records h in
-        (crest→accepted c a, crest-records c, rw (crest-count c .1) (file-length (c .row)))
+        (sound-file→accepted c a, sound-file-records c, rw (sound-file-count c .1) (file-length (c .row)))

@@ -62,8 +62,8 @@ unfolding sumFrom
 all-added {total = total} a = sym (+ℤ-idr total) ∙ a .whole
 
 -- one turn of the loop, with what it stores
-pub turn : {e : Element} → Accepted e → {count : ℕ} {total : ℤ} {s left : ℕ} → Added e count total s left → 0 < left → {z : ℤ} {n : ℕ} → z ≡ total +ℤ mixed (positionOn e s) → n ≡ nextOn (e .length) s → Added e count z n (left - 1)
-turn {e} k {count} {total} {s} {left} a h {z} {n} f g =
+pub one-added : {e : Element} → Accepted e → {count : ℕ} {total : ℤ} {s left : ℕ} → Added e count total s left → 0 < left → {z : ℤ} {n : ℕ} → z ≡ total +ℤ mixed (positionOn e s) → n ≡ nextOn (e .length) s → Added e count z n (left - 1)
+one-added {e} k {count} {total} {s} {left} a h {z} {n} f g =
     let l : left ≡ suc (left - 1) = omega arith in
     subst (λ (y : ℤ). Added e count y n (left - 1)) (sym f)
     (subst (λ (m : ℕ). Added e count (total +ℤ mixed (positionOn e s)) m (left - 1)) (sym g) (one-more k (subst (λ (m : ℕ). Added e count total s m) l a)))

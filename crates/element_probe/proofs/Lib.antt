@@ -1,4 +1,4 @@
 -- The laws that belong to no one function.
 pub mod Adding
-pub mod Summed
+pub mod OverRecord
 pub mod Roots

@@ -6,13 +6,13 @@ use Rattle.integers.specs.Root.{root}
 use Rattle.element_probe.specs.Sums.{rootsFrom}
 
 -- after i of n roots from `first` on
-pub record Added (first n sum i : ℕ) : Type 0 where
+pub record RootsAdded (first n sum i : ℕ) : Type 0 where
   pub within : i ≤ n
   pub small : sum ≤ i * 4294967295
   pub whole : sum + rootsFrom (n - i) (first + i) ≡ rootsFrom n first
 
-pub none-yet : (first n : ℕ) → Added first n 0 0
-none-yet first n =
+pub no-roots-yet : (first n : ℕ) → RootsAdded first n 0 0
+no-roots-yet first n =
     let a : n - 0 ≡ n = omega arith in
     let b : first + 0 ≡ first = omega arith in
     record { within = omega arith; small = omega arith; whole = rw (a, b) (omega arith) }
@@ -24,16 +24,16 @@ next (suc k) m h =
     let e : k ≡ suc k - 1 = omega arith in
     ap (λ j. root m + rootsFrom j (m + 1)) e
 
-pub one-more : {first n sum i : ℕ} → Added first n sum i → i < n → root (first + i) < 2 ^ 32 → Added first n (sum + root (first + i)) (i + 1)
-one-more {first} {n} {sum} {i} a h r =
+pub one-root-more : {first n sum i : ℕ} → RootsAdded first n sum i → i < n → root (first + i) < 2 ^ 32 → RootsAdded first n (sum + root (first + i)) (i + 1)
+one-root-more {first} {n} {sum} {i} a h r =
     let e = next (n - i) (first + i) (omega arith) in
     let k : n - i - 1 ≡ n - (i + 1) = omega arith in
     let m : first + i + 1 ≡ first + (i + 1) = omega arith in
     record { within = omega arith; small = omega (arith, a .small); whole = omega (arith, a .whole, rw (k, m) at e) }
 
-pub all-added : {first n sum i : ℕ} → Added first n sum i → n ≤ i → sum ≡ rootsFrom n first
+pub all-roots-added : {first n sum i : ℕ} → RootsAdded first n sum i → n ≤ i → sum ≡ rootsFrom n first
 unfolding rootsFrom
-all-added {first} {n} {sum} {i} a h =
+all-roots-added {first} {n} {sum} {i} a h =
     let z : n - i ≡ 0 = omega (arith, a .within) in
     let e = rw z at (a .whole) in
     omega arith

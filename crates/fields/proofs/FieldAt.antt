@@ -9,7 +9,7 @@ use lib.ListN.{length, drop}
 use lib.Seq.{getD-drop, drop-cons}
 use Rattle.model.specs.Records.{byteAt, u16At, u32At, u16Bytes, u32Bytes}
 use Rattle.fields.proofs.Bytes.{AllBytes}
-use Rattle.fields.proofs.Digits.{u16-back, u32-back, u16-same, u32-same}
+use Rattle.fields.proofs.NumberBytes.{u16-back, u32-back, u16-same, u32-same}
 
 -- ---- bytes at a place and what l goes on with there
 

@@ -1,6 +1,6 @@
 -- Bytes, and a number's.
 pub mod Bytes
-pub mod Digits
+pub mod NumberBytes
 pub mod FieldAt
 pub mod Listed
 -- Parts of them, read and written.

@@ -13,7 +13,7 @@ use Rattle.model.specs.Acceptance.{crestRules, crestElements}
 use Rattle.model.specs.Crest.{checkOf, fileCrest}
 use Rattle.model.specs.Stations.{D}
 use Rattle.model.specs.Answers.{answerAfter, pointQuestion, located, locatedOn, paperOfLocated}
-use Rattle.marked_examples.specs.Examples.{K, point, firstThree, valuesBy, answered, examples, asked, due}
+use Rattle.marked_examples.specs.Examples.{K, point, firstThree, valuesBy, answerFor, examples, actual, due}
 use Rattle.model.proofs.Answers.{rules-hold}
 
 unfoldable pub elementsK : List Element
@@ -40,8 +40,8 @@ point-on-K : (f : List ℤ → List ℤ) (p : Point) → valuesBy f (paperOfLoca
 point-on-K f p = ap (λ l. valuesBy f (paperOfLocated l)) (onK p)
 
 -- The fourteen examples, in one statement.
-pub examples-hold : map asked examples ≡ map due examples
-unfolding answered examples answerAfter pointQuestion elementsK paperOfLocated
+pub examples-hold : map actual examples ≡ map due examples
+unfolding answerFor examples answerAfter pointQuestion elementsK paperOfLocated
 examples-hold =
     ap₂ _∷_ (point-on-K firstThree (point (pos 512) (pos 300)))
     (ap₂ _∷_ (point-on-K firstThree (point (pos 550) (pos 300)))

@@ -32,19 +32,19 @@ unfolding crest
 K = crest 1 10000 (pos 0)
 
 -- A question to a crest file, but the last, which has none.
-pub data Question : Type 0 where
+pub data ExampleQuestion : Type 0 where
   -- station, offset and residual of a point
-  locate : List ℕ → Point → Question
+  locate : List ℕ → Point → ExampleQuestion
   -- whether a point is answered: its number alone
-  accept : List ℕ → Point → Question
+  accept : List ℕ → Point → ExampleQuestion
   -- the stations that the walk visits, and the count that the answer carries
-  walk : List ℕ → Point → Question
+  walk : List ℕ → Point → ExampleQuestion
   -- the point at a station and an offset
-  invert : List ℕ → ℤ → ℤ → Question
+  invert : List ℕ → ℤ → ℤ → ExampleQuestion
   -- the position at a station
-  place : List ℕ → ℤ → Question
+  place : List ℕ → ℤ → ExampleQuestion
   -- the move from an own point to a target, by a heading
-  stake : Point → Point → ℤ → ℤ → Question
+  stake : Point → Point → ℤ → ℤ → ExampleQuestion
 
 abbrev pub firstTwo : List ℤ → List ℤ
 firstTwo [] = []
@@ -66,24 +66,24 @@ afterThree (a ∷ b ∷ c ∷ more) = more
 abbrev pub valuesBy : (List ℤ → List ℤ) → PaperAnswer → PaperAnswer
 valuesBy f p = record { number = p .number; place = p .place; values = f (p .values) }
 
-unfoldable pub answered : Question → PaperAnswer
+unfoldable pub answerFor : ExampleQuestion → PaperAnswer
 unfolding answerAfter paperOfLocated pointQuestion paperOfInverse placeQuestion paperOfPlaced stationQuestion paperOfMove moveQuestion visits crestRules crestElements
-answered (locate file p) = valuesBy firstThree (paperOfLocated (located (fileCrest file) p))
-answered (accept file p) = valuesBy (λ v. []) (paperOfLocated (located (fileCrest file) p))
-answered (walk file p) = valuesBy (λ v. map pos (visits (crestElements file) p) ++ afterThree v) (paperOfLocated (located (fileCrest file) p))
-answered (invert file s w) = paperOfInverse (inverse (fileCrest file) s w)
-answered (place file s) = valuesBy firstTwo (paperOfPlaced (placed (fileCrest file) s))
-answered (stake own target c s) = paperOfMove (stakeOut own target c s)
+answerFor (locate file p) = valuesBy firstThree (paperOfLocated (located (fileCrest file) p))
+answerFor (accept file p) = valuesBy (λ v. []) (paperOfLocated (located (fileCrest file) p))
+answerFor (walk file p) = valuesBy (λ v. map pos (visits (crestElements file) p) ++ afterThree v) (paperOfLocated (located (fileCrest file) p))
+answerFor (invert file s w) = paperOfInverse (inverse (fileCrest file) s w)
+answerFor (place file s) = valuesBy firstTwo (paperOfPlaced (placed (fileCrest file) s))
+answerFor (stake own target c s) = paperOfMove (stakeOut own target c s)
 
 abbrev pub refusedBy : Reason → ℕ → PaperAnswer
 refusedBy why zeros = refusedWith (refusal why 0) zeros
 
 pub record Example : Type 0 where
-  pub question : Question
+  pub question : ExampleQuestion
   pub expected : PaperAnswer
 
 infix 30 _gives_
-abbrev pub _gives_ : Question → PaperAnswer → Example
+abbrev pub _gives_ : ExampleQuestion → PaperAnswer → Example
 q gives e = record { question = q; expected = e }
 
 unfoldable pub examples : List Example
@@ -113,8 +113,8 @@ examples =
     ∷ (walk (crest 1 3 (pos 0)) (point (pos 0) (pos 0)) gives answeredWith (pos 0 ∷ pos 3 ∷ pos 0 ∷ pos 1 ∷ pos 2 ∷ pos 5 ∷ []))
     ∷ []
 
-abbrev pub asked : Example → PaperAnswer
-asked e = answered (e .question)
+abbrev pub actual : Example → PaperAnswer
+actual e = answerFor (e .question)
 
 abbrev pub due : Example → PaperAnswer
 due e = e .expected

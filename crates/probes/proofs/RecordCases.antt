@@ -12,27 +12,27 @@ use Rattle.model.specs.Records.{recordBytes, countOf}
 use Rattle.model.specs.Refusals.{rule₀, orRefused, refusal, askedOutOfRange}
 use Rattle.model.specs.Acceptance.{crestRules}
 use Rattle.model.specs.Answers.{code, refusedWith, paperOfOutcome, readerOutcome, readerPart}
-use Rattle.codes.specs.Codes.{Small}
+use Rattle.codes.specs.Codes.{Codable}
 use Rattle.sources.proofs.Sound.{file-sound}
 use Rattle.crestfile.proofs.Placed.{none-placed}
-use Rattle.codes.proofs.Codes.{after-small, unplaced}
-use Rattle.probes.specs.Calls.{recordRoom, recordCall}
+use Rattle.codes.proofs.Codes.{after-codable, unplaced}
+use Rattle.probes.specs.ProbeCalls.{recordRoom, recordCall}
 
 module _ (file : List ℕ) (r : ℕ) where
-  reader-small : Small (paperOfOutcome (readerOutcome file r))
+  reader-codable : Codable (paperOfOutcome (readerOutcome file r))
   unfolding readerOutcome
-  reader-small =
+  reader-codable =
       let known = ltb r (countOf (recordBytes file)) in
-      after-small (crestRules file) (rule₀ askedOutOfRange known ∷ []) (file-sound file .places) (unplaced askedOutOfRange known [] none-placed)
+      after-codable (crestRules file) (rule₀ askedOutOfRange known ∷ []) (file-sound file .places) (unplaced askedOutOfRange known [] none-placed)
 
-  pub refusal-small : {why : Refusal} → readerOutcome file r ≡ Refused why → Small (refusedWith why 0)
+  pub refusal-codable : {why : Refusal} → readerOutcome file r ≡ Refused why → Codable (refusedWith why 0)
   unfolding paperOfOutcome
-  refusal-small e = subst (λ (o : Outcome). Small (paperOfOutcome o)) e reader-small
+  refusal-codable e = subst (λ (o : Outcome). Codable (paperOfOutcome o)) e reader-codable
 
   module _ (room : List ℕ) where
-    pub other-room : (length room ≡ 32 → ⊥) → recordCall file r room ≡ (18, room)
+    pub copy-room : (length room ≡ 32 → ⊥) → recordCall file r room ≡ (18, room)
     unfolding recordCall orRefused refusal code paperOfOutcome recordRoom
-    other-room other = rw (ne-eqb (length room) 32 other)
+    copy-room other = rw (ne-eqb (length room) 32 other)
 
     -- what the reader's outcome leaves
     abbrev left : Outcome → ℕ × List ℕ
@@ -43,10 +43,10 @@ module _ (file : List ℕ) (r : ℕ) where
       unfolding recordCall orRefused
       by-reader = rw (eq-eqb (length room) 32 sized)
 
-      pub taken : readerOutcome file r ≡ Done → recordCall file r room ≡ (0, readerPart file r)
+      pub copy-taken : readerOutcome file r ≡ Done → recordCall file r room ≡ (0, readerPart file r)
       unfolding code paperOfOutcome recordRoom
-      taken e = by-reader ∙ ap left e
+      copy-taken e = by-reader ∙ ap left e
 
-      pub refused : {why : Refusal} → readerOutcome file r ≡ Refused why → recordCall file r room ≡ (code (refusedWith why 0), room)
+      pub copy-refused : {why : Refusal} → readerOutcome file r ≡ Refused why → recordCall file r room ≡ (code (refusedWith why 0), room)
       unfolding paperOfOutcome recordRoom
-      refused e = by-reader ∙ ap left e
+      copy-refused e = by-reader ∙ ap left e

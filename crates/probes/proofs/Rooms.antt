@@ -21,8 +21,8 @@ use Rattle.model.specs.Crest.{Crest}
 use Rattle.model.specs.Answers.{PaperAnswer, code, Question, answerAfter, asked, stationQuestion, placed, paperOfPlaced, pointQuestion, located, paperOfLocated, placeQuestion, inverse, paperOfInverse}
 use Rattle.model.proofs.Answers.{Tells, told-refused, station-tells, point-tells, place-tells}
 use Rattle.probes.specs.declared.Reply.{Reply}
-use Rattle.probes.specs.Replies.{fromPlaced, fromLocated, fromInverse, replyCode, replyBytes}
-use Rattle.probes.specs.Calls.{twoSize, fourSize, callOf, placedBytes, locatedBytes, inverseBytes, positionCall, locateCall, inverseCall}
+use Rattle.probes.specs.Replies.{replyOfPlaced, replyOfLocated, replyOfInverse, replyCode, replyBytes}
+use Rattle.probes.specs.ProbeCalls.{twoSize, fourSize, callOf, placedBytes, locatedBytes, inverseBytes, positionCall, locateCall, inverseCall}
 
 -- what a reply leaves
 abbrev pub sent : Reply → List ℕ → ℕ × List ℕ
@@ -31,18 +31,18 @@ sent reply room = (replyCode reply, replyBytes reply room)
 pub sent-as : {n : ℕ} {l : List ℕ} {reply same : Reply} (room : List ℕ) → n ≡ replyCode reply → l ≡ replyBytes reply room → reply ≡ same → _≡_ {A = ℕ × List ℕ} (n, l) (sent same room)
 sent-as room e f g = ap₂ (λ (n : ℕ) (l : List ℕ). (n, l)) (e ∙ ap replyCode g) (f ∙ ap (λ (r : Reply). replyBytes r room) g)
 
-placed-sent : (a : Placed) (room : List ℕ) → _≡_ {A = ℕ × List ℕ} (code (paperOfPlaced a), placedBytes a room) (sent (fromPlaced a) room)
-unfolding code paperOfPlaced placedBytes putAll fromPlaced replyCode replyBytes
+placed-sent : (a : Placed) (room : List ℕ) → _≡_ {A = ℕ × List ℕ} (code (paperOfPlaced a), placedBytes a room) (sent (replyOfPlaced a) room)
+unfolding code paperOfPlaced placedBytes putAll replyOfPlaced replyCode replyBytes
 placed-sent (PlacedAt x y tx ty) room = refl
 placed-sent (PlacedRefused why) room = refl
 
-located-sent : (a : Located) (room : List ℕ) → _≡_ {A = ℕ × List ℕ} (code (paperOfLocated a), locatedBytes a room) (sent (fromLocated a) room)
-unfolding code paperOfLocated locatedBytes putAll fromLocated replyCode replyBytes
+located-sent : (a : Located) (room : List ℕ) → _≡_ {A = ℕ × List ℕ} (code (paperOfLocated a), locatedBytes a room) (sent (replyOfLocated a) room)
+unfolding code paperOfLocated locatedBytes putAll replyOfLocated replyCode replyBytes
 located-sent (LocatedAt station offset residual visits) room = refl
 located-sent (LocatedRefused why) room = refl
 
-inverse-sent : (a : Inverse) (room : List ℕ) → _≡_ {A = ℕ × List ℕ} (code (paperOfInverse a), inverseBytes a room) (sent (fromInverse a) room)
-unfolding code paperOfInverse inverseBytes putAll fromInverse replyCode replyBytes
+inverse-sent : (a : Inverse) (room : List ℕ) → _≡_ {A = ℕ × List ℕ} (code (paperOfInverse a), inverseBytes a room) (sent (replyOfInverse a) room)
+unfolding code paperOfInverse inverseBytes putAll replyOfInverse replyCode replyBytes
 inverse-sent (InverseAt x y) room = refl
 inverse-sent (InverseRefused why) room = refl
 
@@ -77,11 +77,11 @@ module _ (c : Crest) (room : List ℕ) where
   inverse-18 other s w = call-18 paperOfInverse inverseBytes twoSize (placeQuestion s w) c room (place-tells s w (c .elements)) (λ why. refl) other
 
   module _ (sized : length room ≡ fourSize) where
-    pub position-call-sent : (s : ℤ) → positionCall c s room ≡ sent (fromPlaced (placed c s)) room
+    pub position-call-sent : (s : ℤ) → positionCall c s room ≡ sent (replyOfPlaced (placed c s)) room
     position-call-sent s = call-asked paperOfPlaced placedBytes fourSize (stationQuestion s) c room sized ∙ placed-sent (placed c s) room
 
-    pub locate-call-sent : (p : Point) → locateCall c p room ≡ sent (fromLocated (located c p)) room
+    pub locate-call-sent : (p : Point) → locateCall c p room ≡ sent (replyOfLocated (located c p)) room
     locate-call-sent p = call-asked paperOfLocated locatedBytes fourSize (pointQuestion p) c room sized ∙ located-sent (located c p) room
 
-  pub inverse-call-sent : length room ≡ twoSize → (s w : ℤ) → inverseCall c s w room ≡ sent (fromInverse (inverse c s w)) room
+  pub inverse-call-sent : length room ≡ twoSize → (s w : ℤ) → inverseCall c s w room ≡ sent (replyOfInverse (inverse c s w)) room
   inverse-call-sent sized s w = call-asked paperOfInverse inverseBytes twoSize (placeQuestion s w) c room sized ∙ inverse-sent (inverse c s w) room

@@ -13,22 +13,22 @@ use Rattle.model.specs.declared.Inverse.{Inverse}
 use Rattle.model.specs.declared.Inverse.the-variants.{At as InverseAt, Refused as InverseRefused}
 use Rattle.model.specs.Records.{put}
 use Rattle.model.specs.Answers.{code, refusedWith}
-use Rattle.codes.specs.Codes.{Small, putTwo}
+use Rattle.codes.specs.Codes.{Codable, putTwo}
 use Rattle.probes.specs.declared.Reply.{Reply}
 use Rattle.probes.specs.declared.Reply.the-variants.{Four, Two, Refused}
-use Rattle.probes.specs.Calls.{twoSize, fourSize, firstAt, thirdAt}
+use Rattle.probes.specs.ProbeCalls.{twoSize, fourSize, slotA, slotC}
 
-unfoldable pub fromPlaced : Placed → Reply
-fromPlaced (PlacedAt x y tx ty) = Four x y tx ty
-fromPlaced (PlacedRefused why) = Refused why
+unfoldable pub replyOfPlaced : Placed → Reply
+replyOfPlaced (PlacedAt x y tx ty) = Four x y tx ty
+replyOfPlaced (PlacedRefused why) = Refused why
 
-unfoldable pub fromLocated : Located → Reply
-fromLocated (LocatedAt station offset residual visits) = Four (pos station) offset residual (pos visits)
-fromLocated (LocatedRefused why) = Refused why
+unfoldable pub replyOfLocated : Located → Reply
+replyOfLocated (LocatedAt station offset residual visits) = Four (pos station) offset residual (pos visits)
+replyOfLocated (LocatedRefused why) = Refused why
 
-unfoldable pub fromInverse : Inverse → Reply
-fromInverse (InverseAt x y) = Two x y
-fromInverse (InverseRefused why) = Refused why
+unfoldable pub replyOfInverse : Inverse → Reply
+replyOfInverse (InverseAt x y) = Two x y
+replyOfInverse (InverseRefused why) = Refused why
 
 unfoldable pub replyCode : Reply → ℕ
 unfolding code
@@ -38,12 +38,12 @@ replyCode (Refused why) = code (refusedWith why 0)
 
 unfoldable pub replyBytes : Reply → List ℕ → List ℕ
 unfolding put
-replyBytes (Four a b c d) old = putTwo (putTwo old firstAt a b) thirdAt c d
-replyBytes (Two a b) old = putTwo old firstAt a b
+replyBytes (Four a b c d) old = putTwo (putTwo old slotA a b) slotC c d
+replyBytes (Two a b) old = putTwo old slotA a b
 replyBytes (Refused why) old = old
 
--- a reply whose numbers fit 32 bits, and the room that it is written to; a refusal is small
+-- a reply whose numbers fit 32 bits, and the room that it is written to; a refusal has a code
 unfoldable pub Sendable : ℕ → Reply → Type 0
 Sendable room (Four a b c d) = (room ≡ fourSize) × SFits w32 a × SFits w32 b × SFits w32 c × SFits w32 d
 Sendable room (Two a b) = (room ≡ twoSize) × SFits w32 a × SFits w32 b
-Sendable room (Refused why) = Small (refusedWith why 0)
+Sendable room (Refused why) = Codable (refusedWith why 0)

@@ -19,17 +19,17 @@ ghost use mathlib.Core.Path.{_≡_};
 ghost use lib.ListN.{length};
 ghost use lib.IntN.{pos};
 ghost use Rattle.model.specs.Crest.{fileCrest};
-ghost use Rattle.probes.specs.Replies.{fromPlaced, fromLocated, fromInverse, replyCode, replyBytes, Sendable};
-ghost use Rattle.probes.specs.Calls.{fourSize, positionCall, locateCall, inverseCall, recordCall};
+ghost use Rattle.probes.specs.Replies.{replyOfPlaced, replyOfLocated, replyOfInverse, replyCode, replyBytes, Sendable};
+ghost use Rattle.probes.specs.ProbeCalls.{fourSize, positionCall, locateCall, inverseCall, recordCall};
 
 // Room for two numbers of 32 bits and for four, and where the first and the third lie.
 const TWO_SIZE: usize = 8;
 
 const FOUR_SIZE: usize = 16;
 
-const FIRST_AT: usize = 0;
+const SLOT_A: usize = 0;
 
-const THIRD_AT: usize = 8;
+const SLOT_C: usize = 8;
 
 // What is sent back: numbers of 32 bits for the room, or a refusal.
 pub enum Reply {
@@ -38,8 +38,8 @@ pub enum Reply {
     Refused(Refusal),
 }
 
-fn from_placed(answer: Placed) -> Reply
-    ensures { λ r. ⌜ r ≡ fromPlaced answer ⌝ }
+fn reply_of_placed(answer: Placed) -> Reply
+    ensures { λ r. ⌜ r ≡ replyOfPlaced answer ⌝ }
 {
     match answer {
         Placed::At { x, y, tx, ty } => Reply::Four {
@@ -52,9 +52,9 @@ fn from_placed(answer: Placed) -> Reply
     }
 }
 
-fn from_located(answer: Located) -> Reply
-    requires { ⌜ Sendable fourSize (fromLocated answer) ⌝ }
-    ensures { λ r. ⌜ r ≡ fromLocated answer ⌝ }
+fn reply_of_located(answer: Located) -> Reply
+    requires { ⌜ Sendable fourSize (replyOfLocated answer) ⌝ }
+    ensures { λ r. ⌜ r ≡ replyOfLocated answer ⌝ }
 {
     match answer {
         Located::At {
@@ -72,8 +72,8 @@ fn from_located(answer: Located) -> Reply
     }
 }
 
-fn from_inverse(answer: Inverse) -> Reply
-    ensures { λ r. ⌜ r ≡ fromInverse answer ⌝ }
+fn reply_of_inverse(answer: Inverse) -> Reply
+    ensures { λ r. ⌜ r ≡ replyOfInverse answer ⌝ }
 {
     match answer {
         Inverse::At { x, y } => Reply::Two { a: x, b: y },
@@ -89,12 +89,12 @@ fn send(reply: Reply, room: &mut [u8]) -> u32
 {
     match reply {
         Reply::Four { a, b, c, d } => {
-            put_two(room, FIRST_AT, a, b);
-            put_two(room, THIRD_AT, c, d);
+            put_two(room, SLOT_A, a, b);
+            put_two(room, SLOT_C, c, d);
             0
         }
         Reply::Two { a, b } => {
-            put_two(room, FIRST_AT, a, b);
+            put_two(room, SLOT_A, a, b);
             0
         }
         Reply::Refused(why) => code_of(why),
@@ -109,7 +109,7 @@ pub extern "C" fn probe_position(file: &[u8], station: u32, out: &mut [u8]) -> u
     if out.len() != FOUR_SIZE {
         return refusals::WRONG_ROOM;
     }
-    send(from_placed(position(file, station as i64)), out)
+    send(reply_of_placed(position(file, station as i64)), out)
 }
 
 // Station, offset and residual of a point, and how many stations were visited, each of 32 bits: 18 first, for room that is not 16 bytes.
@@ -120,7 +120,7 @@ pub extern "C" fn probe_locate(file: &[u8], x: i32, y: i32, out: &mut [u8]) -> u
     if out.len() != FOUR_SIZE {
         return refusals::WRONG_ROOM;
     }
-    send(from_located(locate(file, point(x, y))), out)
+    send(reply_of_located(locate(file, point(x, y))), out)
 }
 
 // X, Y at a station and an offset, each i32: 18 first, for room that is not 8 bytes.
@@ -132,7 +132,7 @@ pub extern "C" fn probe_inverse(file: &[u8], station: u32, offset: i32, out: &mu
         return refusals::WRONG_ROOM;
     }
     send(
-        from_inverse(inverse(file, station as i64, offset as i64)),
+        reply_of_inverse(inverse(file, station as i64, offset as i64)),
         out,
     )
 }

@@ -12,7 +12,7 @@ use Rattle.model.specs.Acceptance.{elementOf, recordFields, elementBytes, reser
 use Rattle.model.proofs.Verdict.{AllHold, more}
 use Rattle.model.proofs.KindBytes.{kind-same}
 use Rattle.fields.proofs.Bytes.{AllBytes}
-use Rattle.fields.proofs.Digits.{u32-same, i32-same}
+use Rattle.fields.proofs.NumberBytes.{u32-same, i32-same}
 use Rattle.fields.proofs.Listed.{listOf, written-out}
 use Rattle.fields.proofs.Zeros.{part-zero}
 

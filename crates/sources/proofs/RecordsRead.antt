@@ -10,7 +10,7 @@ use Rattle.model.specs.Accepted.{Accepted}
 use Rattle.sources.specs.declared.Form.{Form}
 use Rattle.sources.specs.Sources.{recordsIn, countIn, elementsIn, Readable, SourceAccepted}
 use Rattle.sources.proofs.Elements.{elements-length, elements-at, each-accepted}
-use Rattle.sources.proofs.Records.{records-counted}
+use Rattle.sources.proofs.FormRecords.{records-counted}
 
 -- the element of record i
 abbrev pub elementIn : Form → List ℕ → List ℕ → ℕ → Element

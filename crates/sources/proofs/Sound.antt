@@ -15,7 +15,7 @@ use Rattle.sources.specs.declared.Form.{Form}
 use Rattle.sources.specs.declared.Form.the-variants.{File}
 use Rattle.sources.specs.Sources.{layoutRules, recordsIn, crestIn, Readable, SourceAccepted}
 use Rattle.sources.proofs.Elements.{elements-length, elements-accepted}
-use Rattle.sources.proofs.Records.{records-counted}
+use Rattle.sources.proofs.FormRecords.{records-counted}
 
 module _ (form : Form) (crest amendment : List ℕ) where
   -- where layout and records refuse nothing

@@ -20,22 +20,22 @@ at-number u i e s h split own =
     rw (whole, length-take-le i u (le-of-lt h)) at (at-own (take i u) e (drop (suc i) u) s own)
 
 -- what a place must have for the numbers of its element there
-pub record Reachable (at : AtElement) : Type 0 where
+pub record AcceptedPlace (at : AtElement) : Type 0 where
   pub accepted : Accepted (at .element)
   pub within : at .s ≤ at .element .length
 
-from : (i : ℕ) (e : Element) (es : List Element) (s : ℕ) → Accepted e → AllAccepted es → s ≤ e .length + total es → Reachable (atFrom i (e ∷ es) s)
+from : (i : ℕ) (e : Element) (es : List Element) (s : ℕ) → Accepted e → AllAccepted es → s ≤ e .length + total es → AcceptedPlace (atFrom i (e ∷ es) s)
 unfolding total AllAccepted ownStations
-from i e [] s a b h = subst Reachable (sym (at-first i e [] s (omega arith))) (record { accepted = a; within = omega arith })
+from i e [] s a b h = subst AcceptedPlace (sym (at-first i e [] s (omega arith))) (record { accepted = a; within = omega arith })
 from i e (f ∷ es) s a b h = go (from (i + 1) f es (s - e .length) (b .0) (b .1)) (decLe (e .length) s)
   where
-    go : (s - e .length ≤ f .length + total es → Reachable (atFrom (i + 1) (f ∷ es) (s - e .length))) → Dec (e .length ≤ s) → Reachable (atFrom i (e ∷ f ∷ es) s)
+    go : (s - e .length ≤ f .length + total es → AcceptedPlace (atFrom (i + 1) (f ∷ es) (s - e .length))) → Dec (e .length ≤ s) → AcceptedPlace (atFrom i (e ∷ f ∷ es) s)
     go rest (yes k) =
         let past : e .length + (s - e .length) ≡ s = omega arith in
-        subst Reachable (rw past at (sym (at-later i e f es (s - e .length)))) (rest (omega (arith, h)))
-    go rest (no k) = subst Reachable (sym (at-first i e (f ∷ es) s (omega arith))) (record { accepted = a; within = omega arith })
+        subst AcceptedPlace (rw past at (sym (at-later i e f es (s - e .length)))) (rest (omega (arith, h)))
+    go rest (no k) = subst AcceptedPlace (sym (at-first i e (f ∷ es) s (omega arith))) (record { accepted = a; within = omega arith })
 
-pub at-reachable : (es : List Element) (s : ℕ) → 1 ≤ length es → AllAccepted es → s ≤ total es → Reachable (atStation es s)
+pub at-accepted : (es : List Element) (s : ℕ) → 1 ≤ length es → AllAccepted es → s ≤ total es → AcceptedPlace (atStation es s)
 unfolding total AllAccepted atStation
-at-reachable [] s n a h = absurd (omega arith)
-at-reachable (e ∷ es) s n a h = from 0 e es s (a .0) (a .1) h
+at-accepted [] s n a h = absurd (omega arith)
+at-accepted (e ∷ es) s n a h = from 0 e es s (a .0) (a .1) h

@@ -16,7 +16,7 @@ use Rattle.elements.specs.declared.Placement.{Placement}
 use Rattle.elements.specs.Reached.{placementOf}
 use Rattle.elements.specs.Extent.{Placeable}
 use Rattle.elements.proofs.Extent.{extent}
-use Rattle.stations.proofs.StationAt.{at-reachable}
+use Rattle.stations.proofs.StationAt.{at-accepted}
 
 abbrev placedIn : List Element → ℕ → Placement
 placedIn es s = placementOf (positionAt es s) (tangentAt es s)
@@ -30,7 +30,7 @@ pub station-placeable : (es : List Element) (s : ℕ) → AllAccepted es → s �
 unfolding positionAt tangentAt total
 station-placeable [] s a h = let e : 0 ≡ s = omega arith in subst (λ (n : ℕ). Placeable (placedIn [] n)) e none-placeable
 station-placeable (e ∷ es) s a h =
-    let r = at-reachable (e ∷ es) s (omega arith) a h in
+    let r = at-accepted (e ∷ es) s (omega arith) a h in
     let b = extent (r .accepted) (r .within) in
     record { x = b .x; y = b .y; tx = b .tx; ty = b .ty }
 

@@ -18,18 +18,18 @@ negative : (s : ℤ) → ltZ s (pos 0) ≡ true → nonNeg s ≡ false
 negative (pos n) h = let k : n < 0 = ltb-true n 0 h in absurd (omega arith)
 negative (negsuc n) h = refl
 
-pub not-negative : (s : ℤ) → ltZ s (pos 0) ≡ false → nonNeg s ≡ true
-not-negative (pos n) h = refl
-not-negative (negsuc n) h = sym h
+pub not-below-0 : (s : ℤ) → ltZ s (pos 0) ≡ false → nonNeg s ≡ true
+not-below-0 (pos n) h = refl
+not-below-0 (negsuc n) h = sym h
 
 module _ (es : List Element) (s : ℤ) where
-  pub before-start : ltZ s (pos 0) ≡ true → isStation es s ≡ false
+  pub below-start : ltZ s (pos 0) ≡ true → isStation es s ≡ false
   unfolding isStation
-  before-start h = rw (negative s h)
+  below-start h = rw (negative s h)
 
   pub from-start : ltZ s (pos 0) ≡ false → isStation es s ≡ leb (natAbs s) (total es)
   unfolding isStation
-  from-start h = rw (not-negative s h)
+  from-start h = rw (not-below-0 s h)
 
   pub station-within : isStation es s ≡ true → T (nonNeg s) × (natAbs s ≤ total es)
   unfolding isStation

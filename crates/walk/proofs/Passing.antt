@@ -200,12 +200,12 @@ own-is e [] i count h = rw (eq-eqb (i + 1) count (omega arith))
 own-is e (f ∷ es) i count h = rw (ne-eqb (i + 1) count (λ k. absurd (omega arith)))
 
 -- what is left of the pass is the whole
-pub record Left (pass : Pass) (u : List Element) (q : Point) (w : Seen) (i : ℕ) (v : Seen) : Type 0 where
+pub record PassLeft (pass : Pass) (u : List Element) (q : Point) (w : Seen) (i : ℕ) (v : Seen) : Type 0 where
   pub rest : passOver pass (D u q) (drop i u) (total (take i u)) v ≡ passOver pass (D u q) u 0 w
   pub best : v .best ≤ w .best
   pub visits : v .visits ≤ w .visits + total (take i u) + 2 * i
 
-pub left-start : {pass : Pass} {u : List Element} {q : Point} {w : Seen} → Left pass u q w 0 w
+pub left-start : {pass : Pass} {u : List Element} {q : Point} {w : Seen} → PassLeft pass u q w 0 w
 unfolding total
 left-start = record { rest = refl; best = omega arith; visits = omega arith }
 
@@ -213,7 +213,7 @@ first-over : (pass : Pass) (d : ℕ → ℕ) {l : List Element} {e : Element} {e
 unfolding passOver
 first-over pass d s v q = ap (λ (x : List Element). passOver pass d x s v) q
 
-module _ {pass : Pass} {u : List Element} {q : Point} {w : Seen} {i : ℕ} {v : Seen} {e : Element} (l : Left pass u q w i v) (split : drop i u ≡ e ∷ drop (suc i) u) where
+module _ {pass : Pass} {u : List Element} {q : Point} {w : Seen} {i : ℕ} {v : Seen} {e : Element} (l : PassLeft pass u q w i v) (split : drop i u ≡ e ∷ drop (suc i) u) where
   abbrev es : List Element
   es = drop (suc i) u
 
@@ -228,7 +228,7 @@ module _ {pass : Pass} {u : List Element} {q : Point} {w : Seen} {i : ℕ} {v : 
       let y : s + (x - s) ≡ x = omega arith in
       rw (whole, y) at (D-own (take i u) e es q (x - s) (omega arith))
 
-  pub left-step : {v′ : Seen} → v′ ≡ passOn pass (onElement e (total (take i u)) q) (e .length) (ownStations e (drop (suc i) u)) (total (take i u)) v → Left pass u q w (i + 1) v′
+  pub left-step : {v′ : Seen} → v′ ≡ passOn pass (onElement e (total (take i u)) q) (e .length) (ownStations e (drop (suc i) u)) (total (take i u)) v → PassLeft pass u q w (i + 1) v′
   left-step {v′} p =
       let own = ownStations e es in
       let between = own-between e es in
@@ -244,6 +244,6 @@ module _ {pass : Pass} {u : List Element} {q : Point} {w : Seen} {i : ℕ} {v : 
         visits = rw (n, next) (omega (arith, l .visits, ap (λ (x : Seen). x .visits) p, pass-visits pass f (e .length) own s v, between .1));
       }
 
-pub left-done : {pass : Pass} {u : List Element} {q : Point} {w : Seen} {i : ℕ} {v : Seen} → Left pass u q w i v → length u ≤ i → v ≡ passOver pass (D u q) u 0 w
+pub left-done : {pass : Pass} {u : List Element} {q : Point} {w : Seen} {i : ℕ} {v : Seen} → PassLeft pass u q w i v → length u ≤ i → v ≡ passOver pass (D u q) u 0 w
 unfolding passOver
 left-done {u} l h = rw (drop-of-length-le u h) at (l .rest)

@@ -3,7 +3,7 @@ use mathlib.Core.Path.{sym, ap, _∙_, subst}
 use Rattle.model.specs.declared.ReadingAnswer.{ReadingAnswer}
 use Rattle.model.specs.Answers.{code}
 use Rattle.model.specs.Readings.{paperOfReading}
-use Rattle.codes.specs.Codes.{Small}
+use Rattle.codes.specs.Codes.{Codable}
 use borrow.Author.Needs.{needs}
 use Rattle.codes.proofs.answer_code.Statement.{statement}
 use Rattle.codes.proofs.answer_code.Tie as tie
@@ -20,7 +20,7 @@ enum-known-answer c = search needs
 code-of-requires : tie.Need-code-of-requires
 unfolding paperOfReading
 code-of-requires c κs =
-    let k = subst (λ (a : ReadingAnswer). Small (paperOfReading 0 a)) (c .before .answer .given .1) (c .before .before .before .pre) in
+    let k = subst (λ (a : ReadingAnswer). Codable (paperOfReading 0 a)) (c .before .answer .given .1) (c .before .before .before .pre) in
     record { number = k .number; place = k .place }
 
 returns : tie.Need-returns

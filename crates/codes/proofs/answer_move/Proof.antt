@@ -8,7 +8,7 @@ use Rattle.model.specs.Answers.{code, paperOfMove}
 use Rattle.model.specs.Calls.{forwardAt, moveBytes}
 use Rattle.run.proofs.Narrow.{narrow-fits}
 use Rattle.codes.specs.Codes.{Movable}
-use Rattle.codes.proofs.Widths.{then-two}
+use Rattle.codes.proofs.Casts.{then-two}
 use borrow.Author.Needs.{needs}
 use Rattle.codes.proofs.answer_move.Statement.{statement}
 use Rattle.codes.proofs.answer_move.Tie as tie

@@ -3,7 +3,7 @@ use mathlib.Core.Path.{sym, ap, _∙_, subst}
 use borrow.Author.Needs.{needs}
 use Rattle.model.specs.declared.Outcome.{Outcome}
 use Rattle.model.specs.Answers.{code, paperOfOutcome}
-use Rattle.codes.specs.Codes.{Small}
+use Rattle.codes.specs.Codes.{Codable}
 use Rattle.codes.proofs.outcome_code.Statement.{statement}
 use Rattle.codes.proofs.outcome_code.Tie as tie
 
@@ -15,7 +15,7 @@ enum-known-outcome c = search needs
 
 code-of-requires : tie.Need-code-of-requires
 unfolding paperOfOutcome
-code-of-requires c κs = subst (λ (o : Outcome). Small (paperOfOutcome o)) (c .before .outcome .given .1) (c .before .before .before .pre)
+code-of-requires c κs = subst (λ (o : Outcome). Codable (paperOfOutcome o)) (c .before .outcome .given .1) (c .before .before .before .pre)
 
 returns : tie.Need-returns
 unfolding code paperOfOutcome

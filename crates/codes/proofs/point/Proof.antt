@@ -1,5 +1,5 @@
 -- `codes::point` meets its contract: the casts keep both numbers.
-use Rattle.codes.proofs.Widths.{wide-fits, wide}
+use Rattle.codes.proofs.Casts.{wide-fits, widened}
 use Rattle.codes.proofs.point.Statement.{statement}
 use Rattle.codes.proofs.point.Tie as tie
 
@@ -10,7 +10,7 @@ cast-t4 : tie.Need-cast-t4
 cast-t4 c = search wide-fits
 
 returns : tie.Need-returns
-returns c = rw (wide (c .args .x) (c .fits .x), wide (c .args .y) (c .fits .y))
+returns c = rw (widened (c .args .x) (c .fits .x), widened (c .args .y) (c .fits .y))
 
 pub point-spec : {M : Type 1} → statement M
 point-spec = tie.close (tie.spec cast-t3 cast-t4 returns)

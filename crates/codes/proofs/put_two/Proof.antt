@@ -2,7 +2,7 @@
 use Prim.Native.Nat.{_+_}
 use mathlib.Core.Path.{refl}
 use denote.Ref.{now}
-use Rattle.codes.proofs.Widths.{then-put}
+use Rattle.codes.proofs.Casts.{then-put}
 use borrow.Author.Needs.{needs}
 use Rattle.codes.proofs.put_two.Statement.{statement}
 use Rattle.codes.proofs.put_two.Tie as tie

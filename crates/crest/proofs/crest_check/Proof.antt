@@ -7,8 +7,8 @@ use Rattle.model.specs.Answers.{code, paperOfOutcome}
 use Rattle.model.specs.Calls.{checkCall}
 use Rattle.model.specs.Crest.{fileCrest}
 use Rattle.sources.proofs.Sound.{file-sound}
-use Rattle.codes.specs.Codes.{Small}
-use Rattle.codes.proofs.Codes.{check-small}
+use Rattle.codes.specs.Codes.{Codable}
+use Rattle.codes.proofs.Codes.{check-codable}
 use Rattle.crest.proofs.crest_check.Statement.{statement}
 use Rattle.crest.proofs.crest_check.Tie as tie
 
@@ -16,7 +16,7 @@ check-requires : tie.Need-check-requires
 check-requires c κs = search needs
 
 outcome-code-requires : tie.Need-outcome-code-requires
-outcome-code-requires c κs = subst (λ (o : Outcome). Small (paperOfOutcome o)) (sym (c .check .ensures .0)) (check-small (fileCrest (now (c .before .before .args .crest))) (file-sound _))
+outcome-code-requires c κs = subst (λ (o : Outcome). Codable (paperOfOutcome o)) (sym (c .check .ensures .0)) (check-codable (fileCrest (now (c .before .before .args .crest))) (file-sound _))
 
 returns : tie.Need-returns
 unfolding checkCall

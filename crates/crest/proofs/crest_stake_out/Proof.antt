@@ -9,8 +9,8 @@ use Rattle.model.specs.declared.Move.{Move}
 use Rattle.model.specs.Answers.{code, paperOfMove, stakeOut}
 use Rattle.model.specs.Calls.{moveBytes}
 use Rattle.codes.specs.Codes.{Movable}
-use Rattle.codes.proofs.Widths.{wide-fits, wide, as-came}
-use Rattle.crest.proofs.Moves.{stake-18, stake-answered, stake-movable}
+use Rattle.codes.proofs.Casts.{wide-fits, widened, as-came}
+use Rattle.crest.proofs.StakeCalls.{stake-18, stake-answered, stake-movable}
 use borrow.Author.Needs.{needs}
 use Rattle.crest.proofs.crest_stake_out.Statement.{statement}
 use Rattle.crest.proofs.crest_stake_out.Tie as tie
@@ -52,7 +52,7 @@ module _ (c : tie.After-stake-out) where
   moved =
       let p = c .before in
       c .stake-out .ensures .0
-      ∙ same-stake (as-came (start .fits .own-x) (start .fits .own-y) (p .before .point .ensures)) (as-came (start .fits .target-x) (start .fits .target-y) (p .point2 .ensures)) (wide (start .args .heading-c) (start .fits .heading-c)) (wide (start .args .heading-s) (start .fits .heading-s))
+      ∙ same-stake (as-came (start .fits .own-x) (start .fits .own-y) (p .before .point .ensures)) (as-came (start .fits .target-x) (start .fits .target-y) (p .point2 .ensures)) (widened (start .args .heading-c) (start .fits .heading-c)) (widened (start .args .heading-s) (start .fits .heading-s))
 
 answer-move-requires : tie.Need-answer-move-requires
 answer-move-requires c κs =

@@ -8,8 +8,8 @@ use borrow.Author.Needs.{needs}
 use Rattle.model.specs.declared.Outcome.{Outcome}
 use Rattle.model.specs.Answers.{code, paperOfOutcome}
 use Rattle.model.specs.Calls.{writeCall}
-use Rattle.codes.specs.Codes.{Small}
-use Rattle.codes.proofs.Codes.{writer-small}
+use Rattle.codes.specs.Codes.{Codable}
+use Rattle.codes.proofs.Codes.{writer-codable}
 use Rattle.crest.proofs.crest_write.Statement.{statement}
 use Rattle.crest.proofs.crest_write.Tie as tie
 
@@ -20,7 +20,7 @@ outcome-code-requires : tie.Need-outcome-code-requires
 outcome-code-requires c κs =
     let w = c .before .before in
     let a = w .before .before .before .before .args in
-    subst (λ (o : Outcome). Small (paperOfOutcome o)) (sym (w .write .ensures .0)) (writer-small (now (a .records)) (length (now (a .room))))
+    subst (λ (o : Outcome). Codable (paperOfOutcome o)) (sym (w .write .ensures .0)) (writer-codable (now (a .records)) (length (now (a .room))))
 
 same-length : tie.Need-same-length
 same-length c = search needs

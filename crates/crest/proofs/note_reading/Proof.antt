@@ -17,8 +17,8 @@ use Rattle.run.proofs.Narrow.{stored}
 use Rattle.run.proofs.Noting.{noted-counted}
 use Rattle.run.proofs.Calls.{reading-18, reading-16, reading-counted}
 use Rattle.readings.proofs.Storable.{answer-storable}
-use Rattle.codes.specs.Codes.{Small}
-use Rattle.codes.proofs.Readings.{answer-small}
+use Rattle.codes.specs.Codes.{Codable}
+use Rattle.codes.proofs.QuestionCodes.{answer-codable}
 use Rattle.crest.proofs.note_reading.Statement.{statement}
 use Rattle.crest.proofs.note_reading.Tie as tie
 
@@ -82,7 +82,7 @@ put-run-requires c κs = search needs
 
 answer-code-requires : tie.Need-answer-code-requires
 answer-code-requires c κs =
-    subst (λ (n : Noted). Small (paperOfReading 0 (n .answer))) (sym (told (c .before .before .before .before .before))) (answer-small (fileCrest _) (file-sound _) _)
+    subst (λ (n : Noted). Codable (paperOfReading 0 (n .answer))) (sym (told (c .before .before .before .before .before))) (answer-codable (fileCrest _) (file-sound _) _)
 
 same-length-2 : tie.Need-same-length-2
 same-length-2 c = search needs

@@ -13,7 +13,7 @@ use Rattle.model.specs.Accepted.{Accepted}
 use Rattle.model.proofs.Accepted.{record-accepted}
 use Rattle.elements.proofs.Preparing.{prepared-element}
 use Rattle.element_probe.specs.Sums.{sumFrom}
-use Rattle.element_probe.proofs.Summed.{of-other-length, of-refused, of-accepted}
+use Rattle.element_probe.proofs.OverRecord.{of-other-length, of-refused, of-accepted}
 use Rattle.element_probe.proofs.element_positions.Statement.{statement}
 use Rattle.element_probe.proofs.element_positions.Tie as tie
 

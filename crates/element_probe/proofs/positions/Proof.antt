@@ -5,7 +5,7 @@ use native.Mathlib.Omega.{arith}
 use mir.Syntax.{w64}
 use mir.Val.{toZ}
 use mir.ValLaws.{toZ-ofZ}
-use Rattle.element_probe.proofs.Adding.{Added, none-yet, turn, all-added}
+use Rattle.element_probe.proofs.Adding.{Added, none-yet, one-added, all-added}
 use Rattle.element_probe.proofs.positions.Statement.{statement}
 use Rattle.element_probe.proofs.positions.Tie as tie
 
@@ -35,7 +35,7 @@ loop-less c = omega arith
 loop-again : tie.Need-loop-again Inv-loop μ-loop
 loop-again c =
     let x = c .before .before .before in
-    turn (x .before .before .pre .accepted) (x .loop .inv) (omega arith) (toZ-ofZ w64 (c .before .add-position .result) (record { sfits = c .before .add-position .ok }) ∙ c .before .add-position .ensures) (c .next-on .ensures)
+    one-added (x .before .before .pre .accepted) (x .loop .inv) (omega arith) (toZ-ofZ w64 (c .before .add-position .result) (record { sfits = c .before .add-position .ok }) ∙ c .before .add-position .ensures) (c .next-on .ensures)
 
 returns : tie.Need-returns Inv-loop μ-loop
 returns c = let a = c .before .loop .inv in all-added (subst (λ (n : ℕ). Added (c .before .before .before .args .p .element) (c .before .before .before .args .count) (toZ w64 (c .before .loop .sum)) (c .before .loop .s) n) (omega arith) a)

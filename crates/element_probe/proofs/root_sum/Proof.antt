@@ -2,12 +2,12 @@
 use Prim.Native.Nat.{_-_}
 use native.Mathlib.Omega.{arith}
 use borrow.Author.Needs.{needs}
-use Rattle.element_probe.proofs.Roots.{Added, none-yet, one-more, all-added}
+use Rattle.element_probe.proofs.Roots.{RootsAdded, no-roots-yet, one-root-more, all-roots-added}
 use Rattle.element_probe.proofs.root_sum.Statement.{statement}
 use Rattle.element_probe.proofs.root_sum.Tie as tie
 
 abbrev Inv-loop : tie.InvT-loop
-Inv-loop high count first n sum₀ i₀ sum i = Added first n sum i
+Inv-loop high count first n sum₀ i₀ sum i = RootsAdded first n sum i
 
 abbrev μ-loop : tie.MeasureT-loop
 μ-loop high count first n sum₀ i₀ sum i = n - i
@@ -16,7 +16,7 @@ mul-first : tie.Need-mul-first Inv-loop μ-loop
 mul-first c = search needs
 
 loop-holds : tie.Need-loop-holds Inv-loop μ-loop
-loop-holds c = none-yet _ _
+loop-holds c = no-roots-yet _ _
 
 add-whole-root : tie.Need-add-whole-root Inv-loop μ-loop
 add-whole-root c = search needs
@@ -39,10 +39,10 @@ loop-again : tie.Need-loop-again Inv-loop μ-loop
 loop-again c =
     let a = c .before .before .loop .inv in
     let r = c .whole-root .ensures in
-    rw (r .0) (one-more a (omega arith) (rw (← r .0) (r .1)))
+    rw (r .0) (one-root-more a (omega arith) (rw (← r .0) (r .1)))
 
 returns : tie.Need-returns Inv-loop μ-loop
-returns c = all-added (c .before .loop .inv) (omega arith)
+returns c = all-roots-added (c .before .loop .inv) (omega arith)
 
 pub root-sum-spec : {M : Type 1} → statement M
 root-sum-spec =

@@ -10,7 +10,7 @@ use Rattle.model.proofs.Answers.{told-outcome}
 use Rattle.model.proofs.InSteps.{left-all, left-next, left-refused, left-none}
 use Rattle.sources.specs.Sources.{recordsIn}
 use Rattle.sources.proofs.RecordsRead.{elementIn, RecordsRead, read-asks, read-count, read-accepted}
-use Rattle.joins.proofs.JoinElements.{placedOn, prepared-placed, prepared-length, small-placed, joinAt, Joined, join-here}
+use Rattle.joins.proofs.JoinElements.{placementOn, prepared-placed, prepared-length, small-placed, joinAt, Joined, join-here}
 use Rattle.joins.proofs.check_joins.Statement.{statement}
 use Rattle.joins.proofs.check_joins.Tie as tie
 
@@ -72,10 +72,10 @@ cast-check-join c =
 -- where the next element begins
 begins : (c : tie.After-placed2 Inv-loop μ-loop) → let l = c .before .before .before .before in
     let a = l .before .before .before .before .before .before .before .args in
-    c .placed2 .result ≡ placedOn (elementIn (a .form) (a .crest .now) (a .amendment .now) (l .loop .r + 1)) 0
+    c .placed2 .result ≡ placementOn (elementIn (a .form) (a .crest .now) (a .amendment .now) (l .loop .r + 1)) 0
 begins c =
     let n = c .before .before in
-    prepared-placed (n .element-in2 .result) 0 (c .before .prepare2 .ensures .0) (c .placed2 .ensures) ∙ ap (λ (e : Element). placedOn e 0) (n .element-in2 .ensures)
+    prepared-placed (n .element-in2 .result) 0 (c .before .prepare2 .ensures .0) (c .placed2 .ensures) ∙ ap (λ (e : Element). placementOn e 0) (n .element-in2 .ensures)
 
 check-join-requires : tie.Need-check-join-requires Inv-loop μ-loop
 check-join-requires c κs =

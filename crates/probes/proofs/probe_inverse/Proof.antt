@@ -6,9 +6,9 @@ use mir.ValLaws.{toZ-pos}
 use denote.Ref.{now}
 use Rattle.model.specs.Crest.{Crest, fileCrest}
 use Rattle.model.specs.Answers.{inverse}
-use Rattle.codes.proofs.Widths.{wide-fits, wide}
+use Rattle.codes.proofs.Casts.{wide-fits, widened}
 use Rattle.sources.proofs.Sound.{file-sound}
-use Rattle.probes.specs.Replies.{fromInverse}
+use Rattle.probes.specs.Replies.{replyOfInverse}
 use Rattle.probes.proofs.Rooms.{inverse-18, inverse-call-sent, sent-as}
 use Rattle.probes.proofs.Sent.{same-sendable, inverse-sendable}
 use borrow.Author.Needs.{needs}
@@ -29,10 +29,10 @@ cast-inverse-2 c = let start = c .before .before .before in wide-fits (start .ar
 inverse-requires : tie.Need-inverse-requires
 inverse-requires c κs = search needs
 
-from-inverse-requires : tie.Need-from-inverse-requires
-from-inverse-requires c κs = search needs
+reply-of-inverse-requires : tie.Need-reply-of-inverse-requires
+reply-of-inverse-requires c κs = search needs
 
-module _ (c : tie.After-from-inverse) where
+module _ (c : tie.After-reply-of-inverse) where
   abbrev test : tie.Else1
   test = c .before .before
 
@@ -48,10 +48,10 @@ module _ (c : tie.After-from-inverse) where
   abbrev offset : ℤ
   offset = start .args .offset
 
-  reply : c .from-inverse .result ≡ fromInverse (inverse crest station offset)
+  reply : c .reply-of-inverse .result ≡ replyOfInverse (inverse crest station offset)
   reply =
-      c .from-inverse .ensures
-      ∙ ap fromInverse (c .before .inverse .ensures .0 ∙ ap₂ (λ (s w : ℤ). inverse crest s w) (toZ-pos w64 (start .args .station) (cast-inverse test .sfits)) (wide offset (start .fits .offset)))
+      c .reply-of-inverse .ensures
+      ∙ ap replyOfInverse (c .before .inverse .ensures .0 ∙ ap₂ (λ (s w : ℤ). inverse crest s w) (toZ-pos w64 (start .args .station) (cast-inverse test .sfits)) (widened offset (start .fits .offset)))
 
 send-requires : tie.Need-send-requires
 send-requires c κs = let r = c .before in same-sendable (test r .if1 .left) (reply r) (inverse-sendable (crest r) (file-sound _) (station r) (offset r))
@@ -73,7 +73,7 @@ probe-inverse-spec =
     cast-inverse
     cast-inverse-2
     inverse-requires
-    from-inverse-requires
+    reply-of-inverse-requires
     send-requires
     same-length
     returns-2)

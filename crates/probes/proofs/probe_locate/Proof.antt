@@ -5,10 +5,10 @@ use Rattle.model.specs.declared.Point.{Point}
 use Rattle.model.specs.declared.Located.{Located}
 use Rattle.model.specs.Crest.{Crest, fileCrest}
 use Rattle.model.specs.Answers.{located}
-use Rattle.codes.proofs.Widths.{as-came}
+use Rattle.codes.proofs.Casts.{as-came}
 use Rattle.sources.proofs.Sound.{file-sound}
-use Rattle.probes.specs.Replies.{fromLocated, Sendable}
-use Rattle.probes.specs.Calls.{fourSize}
+use Rattle.probes.specs.Replies.{replyOfLocated, Sendable}
+use Rattle.probes.specs.ProbeCalls.{fourSize}
 use Rattle.probes.proofs.Rooms.{locate-18, locate-call-sent, sent-as}
 use Rattle.probes.proofs.Sent.{same-sendable, located-sendable}
 use borrow.Author.Needs.{needs}
@@ -39,11 +39,11 @@ module _ (c : tie.After-locate) where
   answered : c .locate .result ≡ located crest q
   answered = c .locate .ensures .0 ∙ ap (located crest) (as-came (start .fits .x) (start .fits .y) (c .before .point .ensures))
 
-from-located-requires : tie.Need-from-located-requires
-from-located-requires c κs = subst (λ (a : Located). Sendable fourSize (fromLocated a)) (sym (answered c)) (located-sendable (crest c) (file-sound _) (q c))
+reply-of-located-requires : tie.Need-reply-of-located-requires
+reply-of-located-requires c κs = subst (λ (a : Located). Sendable fourSize (replyOfLocated a)) (sym (answered c)) (located-sendable (crest c) (file-sound _) (q c))
 
-reply : (c : tie.After-from-located) → c .from-located .result ≡ fromLocated (located (crest (c .before)) (q (c .before)))
-reply c = c .from-located .ensures ∙ ap fromLocated (answered (c .before))
+reply : (c : tie.After-reply-of-located) → c .reply-of-located .result ≡ replyOfLocated (located (crest (c .before)) (q (c .before)))
+reply c = c .reply-of-located .ensures ∙ ap replyOfLocated (answered (c .before))
 
 send-requires : tie.Need-send-requires
 send-requires c κs =
@@ -67,7 +67,7 @@ probe-locate-spec =
     returns
     point-requires
     locate-requires
-    from-located-requires
+    reply-of-located-requires
     send-requires
     same-length
     returns-2)

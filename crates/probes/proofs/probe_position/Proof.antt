@@ -7,7 +7,7 @@ use denote.Ref.{now}
 use Rattle.model.specs.Crest.{Crest, fileCrest}
 use Rattle.model.specs.Answers.{placed}
 use Rattle.sources.proofs.Sound.{file-sound}
-use Rattle.probes.specs.Replies.{fromPlaced}
+use Rattle.probes.specs.Replies.{replyOfPlaced}
 use Rattle.probes.proofs.Rooms.{position-18, position-call-sent, sent-as}
 use Rattle.probes.proofs.Sent.{same-sendable, placed-sendable}
 use borrow.Author.Needs.{needs}
@@ -25,10 +25,10 @@ cast-position c = search needs
 position-requires : tie.Need-position-requires
 position-requires c κs = search needs
 
-from-placed-requires : tie.Need-from-placed-requires
-from-placed-requires c κs = search needs
+reply-of-placed-requires : tie.Need-reply-of-placed-requires
+reply-of-placed-requires c κs = search needs
 
-module _ (c : tie.After-from-placed) where
+module _ (c : tie.After-reply-of-placed) where
   abbrev test : tie.Else1
   test = c .before .before
 
@@ -41,8 +41,8 @@ module _ (c : tie.After-from-placed) where
   abbrev station : ℤ
   station = pos (start .args .station)
 
-  reply : c .from-placed .result ≡ fromPlaced (placed crest station)
-  reply = c .from-placed .ensures ∙ ap fromPlaced (c .before .position .ensures .0 ∙ ap (placed crest) (toZ-pos w64 (start .args .station) (cast-position test .sfits)))
+  reply : c .reply-of-placed .result ≡ replyOfPlaced (placed crest station)
+  reply = c .reply-of-placed .ensures ∙ ap replyOfPlaced (c .before .position .ensures .0 ∙ ap (placed crest) (toZ-pos w64 (start .args .station) (cast-position test .sfits)))
 
 send-requires : tie.Need-send-requires
 send-requires c κs = let r = c .before in same-sendable (test r .if1 .left) (reply r) (placed-sendable (crest r) (file-sound _) (station r))
@@ -63,7 +63,7 @@ probe-position-spec =
     returns
     cast-position
     position-requires
-    from-placed-requires
+    reply-of-placed-requires
     send-requires
     same-length
     returns-2)

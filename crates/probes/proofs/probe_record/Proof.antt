@@ -10,12 +10,12 @@ use Rattle.model.specs.declared.Outcome.the-variants.{Done}
 use Rattle.model.specs.Answers.{Span, readerOutcome}
 use Rattle.alignment.proofs.PartOrders.{span-done}
 use Rattle.fields.proofs.Puts.{put-whole}
-use Rattle.probes.proofs.RecordCases.{refusal-small, other-room, taken, refused}
+use Rattle.probes.proofs.RecordCases.{refusal-codable, copy-room, copy-taken, copy-refused}
 use Rattle.probes.proofs.probe_record.Statement.{statement}
 use Rattle.probes.proofs.probe_record.Tie as tie
 
 returns : tie.Need-returns
-returns c = sym (other-room _ _ _ (c .if1 .taken))
+returns c = sym (copy-room _ _ _ (c .if1 .taken))
 
 record-outcome-requires : tie.Need-record-outcome-requires
 record-outcome-requires c κs = search needs
@@ -50,7 +50,7 @@ enum-known-why : tie.Need-enum-known-why
 enum-known-why c = search needs
 
 code-of-requires : tie.Need-code-of-requires
-code-of-requires c κs = refusal-small _ _ (sym (c .before .before .before .record-outcome .ensures .0) ∙ c .before .why .given .1)
+code-of-requires c κs = refusal-codable _ _ (sym (c .before .before .before .record-outcome .ensures .0) ∙ c .before .why .given .1)
 
 same-length : tie.Need-same-length
 same-length c = search needs
@@ -60,14 +60,14 @@ returns-2 c =
     let m = c .before .before in
     let p = m .before in
     let copied = m .copy-at .ensures ∙ put-whole _ _ (omega (arith, whole p, sized p)) in
-    ap (λ (l : List ℕ). (0, l)) (copied ∙ p .record-part .ensures .0) ∙ sym (taken _ _ _ (sized p) (done p))
+    ap (λ (l : List ℕ). (0, l)) (copied ∙ p .record-part .ensures .0) ∙ sym (copy-taken _ _ _ (sized p) (done p))
 
 returns-3 : tie.Need-returns-3
 returns-3 c =
     let k = c .before .before in
     let o = k .before .before in
     ap (λ (n : ℕ). (n, now (o .before .before .before .before .args .out))) (c .code-of .ensures)
-    ∙ sym (refused _ _ _ (o .before .if1 .left) (sym (o .record-outcome .ensures .0) ∙ k .why .given .1))
+    ∙ sym (copy-refused _ _ _ (o .before .if1 .left) (sym (o .record-outcome .ensures .0) ∙ k .why .given .1))
 
 pub probe-record-spec : {M : Type 1} → statement M
 probe-record-spec =

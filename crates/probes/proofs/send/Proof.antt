@@ -5,7 +5,7 @@ use lib.ListN.{length}
 use denote.Ref.{now}
 use Rattle.run.proofs.Narrow.{narrow-fits}
 use Rattle.probes.specs.declared.Reply.{Reply}
-use Rattle.codes.proofs.Widths.{then-two}
+use Rattle.codes.proofs.Casts.{then-two}
 use Rattle.probes.specs.Replies.{replyCode, replyBytes, Sendable}
 use borrow.Author.Needs.{needs}
 use Rattle.probes.proofs.send.Statement.{statement}

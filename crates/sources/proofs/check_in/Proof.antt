@@ -3,7 +3,7 @@ use mathlib.Core.Path.{ap, _∙_}
 use native.Mathlib.Omega.{arith}
 use Rattle.model.specs.Refusals.{verdict}
 use Rattle.model.specs.Acceptance.{recordRules}
-use Rattle.sources.proofs.Records.{way-asks, part-is-record}
+use Rattle.sources.proofs.FormRecords.{way-asks, part-is-record}
 use Rattle.sources.proofs.check_in.Statement.{statement}
 use Rattle.sources.proofs.check_in.Tie as tie
 

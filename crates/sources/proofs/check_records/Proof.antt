@@ -10,7 +10,7 @@ use Rattle.model.specs.Acceptance.{recordRules, eachRecord}
 use Rattle.model.proofs.Answers.{told-outcome}
 use Rattle.model.proofs.InSteps.{Left, left-all, left-next, left-refused, left-none}
 use Rattle.sources.specs.Sources.{recordsIn, countIn}
-use Rattle.sources.proofs.Records.{records-counted}
+use Rattle.sources.proofs.FormRecords.{records-counted}
 use Rattle.sources.proofs.check_records.Statement.{statement}
 use Rattle.sources.proofs.check_records.Tie as tie
 

@@ -1,7 +1,7 @@
 -- `sources::element_in` meets its contract.
 use mathlib.Core.Path.{ap, _∙_}
 use Rattle.model.specs.Acceptance.{elementOf, elementAt}
-use Rattle.sources.proofs.Records.{way-asks, part-is-record}
+use Rattle.sources.proofs.FormRecords.{way-asks, part-is-record}
 use Rattle.sources.proofs.element_in.Statement.{statement}
 use Rattle.sources.proofs.element_in.Tie as tie
 

@@ -1,5 +1,5 @@
 -- `sources::record_in` meets its contract.
-use Rattle.sources.proofs.Records.{way-asks, part-is-record}
+use Rattle.sources.proofs.FormRecords.{way-asks, part-is-record}
 use Rattle.sources.proofs.record_in.Statement.{statement}
 use Rattle.sources.proofs.record_in.Tie as tie
 

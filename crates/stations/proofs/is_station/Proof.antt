@@ -9,7 +9,7 @@ use lib.Signed.{ltZ}
 use mir.Facts.{toZ-ofZ}
 use Rattle.model.specs.declared.Element.{Element}
 use Rattle.sources.specs.Sources.{elementsLent}
-use Rattle.stations.proofs.StationRange.{before-start, from-start, not-negative, held-casts}
+use Rattle.stations.proofs.StationRange.{below-start, from-start, not-below-0, held-casts}
 use Rattle.stations.proofs.is_station.Statement.{statement}
 use Rattle.stations.proofs.is_station.Tie as tie
 
@@ -22,12 +22,12 @@ from-zero c = rw (toZ-ofZ (c .before .before .before .fits .s)) at (c .if1 .left
 returns : tie.Need-returns
 returns c =
     let s = c .before .before .before in
-    sym (before-start (es s) (s .args .s) (rw (toZ-ofZ (s .fits .s)) at (c .if1 .taken)))
+    sym (below-start (es s) (s .args .s) (rw (toZ-ofZ (s .fits .s)) at (c .if1 .taken)))
 
 cast-result : tie.Need-cast-result
 cast-result c =
     let s = c .before .before .before in
-    held-casts (s .fits .s) (subst T (sym (not-negative (s .args .s) (from-zero c))) tt)
+    held-casts (s .fits .s) (subst T (sym (not-below-0 (s .args .s) (from-zero c))) tt)
 
 total-requires : tie.Need-total-requires
 total-requires c κs = search needs

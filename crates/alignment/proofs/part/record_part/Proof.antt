@@ -7,7 +7,7 @@ use Rattle.model.specs.Records.{recordStart}
 use Rattle.model.specs.Answers.{readerOutcome, readerPart}
 use Rattle.sources.specs.declared.Form.the-variants.{File}
 use Rattle.sources.specs.Sources.{startIn}
-use Rattle.sources.proofs.Records.{record-lies}
+use Rattle.sources.proofs.FormRecords.{record-lies}
 use Rattle.alignment.proofs.PartOrders.{reader-done, span-done, span-refused, lent}
 use Rattle.alignment.proofs.part.record_part.Statement.{statement}
 use Rattle.alignment.proofs.part.record_part.Tie as tie

@@ -12,7 +12,7 @@ use Rattle.model.proofs.Verdict.{done→all, verdict-after, refused-before}
 use Rattle.model.proofs.Answers.{told-outcome}
 use Rattle.crestfile.specs.BlockChecks.{blockRules, eachBlock}
 use Rattle.model.proofs.ForEach.{holds-one}
-use Rattle.crestfile.proofs.Crest.{fits→sized}
+use Rattle.crestfile.proofs.SoundFile.{fits→blocks}
 use Rattle.crestfile.proofs.check.check_blocks.Statement.{statement}
 use Rattle.crestfile.proofs.check.check_blocks.Tie as tie
 
@@ -20,7 +20,7 @@ passed : (c : tie.After-enum-told) → verdict (rule₀ byteCount (lengthFits (l
 passed c = sym (c .before .before .check-length .ensures) ∙ c .enum-told .given .1
 
 not-longer : (c : tie.After-enum-told) → length (c .before .before .before .before .args .file .now) ≤ 2048
-not-longer c = omega (arith, fits→sized _ (holds-one (done→all _ (passed c))))
+not-longer c = omega (arith, fits→blocks _ (holds-one (done→all _ (passed c))))
 
 check-length-requires : tie.Need-check-length-requires
 check-length-requires c κs = search needs

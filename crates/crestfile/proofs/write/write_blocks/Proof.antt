@@ -7,14 +7,14 @@ use lib.ListN.{length, length-take}
 use Rattle.model.specs.Records.{put}
 use Rattle.model.specs.Writer.{block}
 use Rattle.fields.proofs.PartsOf.{lent-length}
-use Rattle.crestfile.proofs.Crest.{count-fits}
+use Rattle.crestfile.proofs.SoundFile.{count-fits}
 use Rattle.fields.proofs.Puts.{lent-back}
-use Rattle.crestfile.proofs.PutBlocks.{Written, none-written, one-more-written, all-written, block-part}
+use Rattle.crestfile.proofs.PutBlocks.{BlocksWritten, none-written, one-more-written, all-written, block-part}
 use Rattle.crestfile.proofs.write.write_blocks.Statement.{statement}
 use Rattle.crestfile.proofs.write.write_blocks.Tie as tie
 
 abbrev Inv-loop : tie.InvT-loop
-Inv-loop records room₀ len n b₀ room b = Written records room₀ room b
+Inv-loop records room₀ len n b₀ room b = BlocksWritten records room₀ room b
 
 abbrev μ-loop : tie.MeasureT-loop
 μ-loop records room₀ len n b₀ room b = n - b

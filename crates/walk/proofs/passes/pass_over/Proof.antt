@@ -16,13 +16,13 @@ use Rattle.sources.proofs.RecordsRead.{RecordsRead, elementIn, read-asks, read-
 use Rattle.stations.proofs.StationTotal.{read-ends}
 use Rattle.walk_laws.proofs.Own.{own-between}
 use Rattle.walk.specs.Search.{onElement, passOn}
-use Rattle.walk.proofs.Passing.{Left, own-is, left-start, left-step, left-done}
+use Rattle.walk.proofs.Passing.{PassLeft, own-is, left-start, left-step, left-done}
 use Rattle.walk.proofs.passes.pass_over.Statement.{statement}
 use Rattle.walk.proofs.passes.pass_over.Tie as tie
 
 abbrev Inv-loop : tie.InvT-loop
 Inv-loop pass crest amendment form q count i₀ start₀ v₀ i start v =
-    RecordsRead form crest amendment count × (i ≤ count) × (start ≡ total (take i (elementsIn form crest amendment))) × Left pass (elementsIn form crest amendment) q v₀ i v
+    RecordsRead form crest amendment count × (i ≤ count) × (start ≡ total (take i (elementsIn form crest amendment))) × PassLeft pass (elementsIn form crest amendment) q v₀ i v
 
 abbrev μ-loop : tie.MeasureT-loop
 μ-loop pass crest amendment form q count i₀ start₀ v₀ i start v = count - i

@@ -1,10 +1,10 @@
--- `probes::from_inverse` meets its contract: a case for each answer.
+-- `probes::reply_of_inverse` meets its contract: a case for each answer.
 use mir.Syntax.{w64}
 use mir.ValLaws.{toZ-ofZ}
 use borrow.Author.Needs.{needs}
-use Rattle.probes.specs.Replies.{fromInverse}
-use Rattle.probes.proofs.from_inverse.Statement.{statement}
-use Rattle.probes.proofs.from_inverse.Tie as tie
+use Rattle.probes.specs.Replies.{replyOfInverse}
+use Rattle.probes.proofs.reply_of_inverse.Statement.{statement}
+use Rattle.probes.proofs.reply_of_inverse.Tie as tie
 
 enum-known-answer : tie.Need-enum-known-answer
 enum-known-answer c = search needs
@@ -13,15 +13,15 @@ enum-known-answer-2 : tie.Need-enum-known-answer-2
 enum-known-answer-2 c = search needs
 
 returns : tie.Need-returns
-unfolding fromInverse
+unfolding replyOfInverse
 returns c =
     let told = c .known-told .given in
     let g = c .before .answer .given in
     rw (g .1, toZ-ofZ w64 (g .0 .0) (record { sfits = told .0 .1 }), toZ-ofZ w64 (g .0 .1 .0) (record { sfits = told .1 .0 .1 }))
 
 returns-2 : tie.Need-returns-2
-unfolding fromInverse
+unfolding replyOfInverse
 returns-2 c = rw (c .before .answer2 .given .1)
 
-pub from-inverse-spec : {M : Type 1} → statement M
-from-inverse-spec = tie.close (tie.spec enum-known-answer enum-known-answer-2 returns returns-2)
+pub reply-of-inverse-spec : {M : Type 1} → statement M
+reply-of-inverse-spec = tie.close (tie.spec enum-known-answer enum-known-answer-2 returns returns-2)

@@ -1,4 +1,4 @@
--- A question's refusal is small: it is that of the rules before it, whose places are small, or one without a place. So a reading's is, on a crest of any source.
+-- A question's refusal has a code: it is that of the rules before it, whose places are at most 60, or one without a place. So a reading's is, on a crest of any source.
 use mathlib.Core.List.{List}
 use mathlib.Core.Path.{sym, subst}
 use native.Mathlib.Omega.{arith}
@@ -16,8 +16,8 @@ use Rattle.model.specs.Answers.{PaperAnswer, paperIf, paperOfOutcome, Question,
 use Rattle.model.specs.Readings.{answerTo, valueCount, paperOfReading}
 use Rattle.model.proofs.Answers.{Bare, none, next, Tells, told-paper, reading-tells}
 use Rattle.crestfile.proofs.Placed.{PlacedOrder, none-placed, rule-placed}
-use Rattle.codes.specs.Codes.{Small}
-use Rattle.codes.proofs.Codes.{after-small}
+use Rattle.codes.specs.Codes.{Codable}
+use Rattle.codes.proofs.Codes.{after-codable}
 
 -- ---- a question, after the rules that come before its own
 
@@ -25,24 +25,24 @@ bare-placed : {rs : List Rule} → Bare rs → PlacedOrder rs
 bare-placed none = none-placed
 bare-placed (next {r} {rs} e k) = rule-placed r rs (omega (arith, e)) (λ d. bare-placed k)
 
-paper-small : (o : Outcome) (values : List ℤ) → Small (paperOfOutcome o) → Small (paperIf o values)
+paper-codable : (o : Outcome) (values : List ℤ) → Codable (paperOfOutcome o) → Codable (paperIf o values)
 unfolding paperOfOutcome paperIf
-paper-small Done values k = record { number = k .number; place = k .place }
-paper-small (Refused why) values k = record { number = k .number; place = k .place }
+paper-codable Done values k = record { number = k .number; place = k .place }
+paper-codable (Refused why) values k = record { number = k .number; place = k .place }
 
 module _ {A : Type 0} {refused : Refusal → A} {paperOf : A → PaperAnswer} {q : Question A} (tells : Tells refused paperOf q) (before : List Rule) (placed : PlacedOrder before) where
-  pub question-small : Small (paperOf (answerAfter before q))
+  pub question-codable : Codable (paperOf (answerAfter before q))
   unfolding paperAfter
-  question-small = subst Small (sym (told-paper tells before)) (paper-small _ (q .values) (after-small before (q .order) placed (bare-placed (tells .bare))))
+  question-codable = subst Codable (sym (told-paper tells before)) (paper-codable _ (q .values) (after-codable before (q .order) placed (bare-placed (tells .bare))))
 
 -- ---- a reading
 
 -- its number and place are the same for any number of values
-any-values : (n : ℕ) (a : ReadingAnswer) → Small (paperOfReading n a) → Small (paperOfReading 0 a)
+any-values : (n : ℕ) (a : ReadingAnswer) → Codable (paperOfReading n a) → Codable (paperOfReading 0 a)
 unfolding paperOfReading
 any-values n (AnswerPoint station offset residual visits) k = k
 any-values n (AnswerPlace x y) k = k
 any-values n (AnswerRefused why) k = record { number = k .number; place = k .place }
 
-pub answer-small : (c : Crest) → SoundCrest c → (r : Reading) → Small (paperOfReading 0 (answerTo c r))
-answer-small c sound r = any-values (valueCount r) (answerTo c r) (question-small (reading-tells r (c .elements)) (c .rules) (sound .places))
+pub answer-codable : (c : Crest) → SoundCrest c → (r : Reading) → Codable (paperOfReading 0 (answerTo c r))
+answer-codable c sound r = any-values (valueCount r) (answerTo c r) (question-codable (reading-tells r (c .elements)) (c .rules) (sound .places))

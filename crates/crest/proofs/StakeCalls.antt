@@ -15,7 +15,7 @@ use Rattle.model.proofs.Answers.{move-tells}
 use Rattle.crestfile.proofs.Placed.{none-placed}
 use Rattle.stakes.proofs.StakeAnswers.{move-small}
 use Rattle.codes.specs.Codes.{Movable}
-use Rattle.codes.proofs.Readings.{question-small}
+use Rattle.codes.proofs.QuestionCodes.{question-codable}
 
 module _ (own target : Point) (c s : ℤ) where
   pub stake-18 : (room : List ℕ) → (length room ≡ 8 → ⊥) → stakeOutCall own target c s room ≡ (18, room)
@@ -29,6 +29,6 @@ module _ (own target : Point) (c s : ℤ) where
   pub stake-movable : Movable (stakeOut own target c s)
   stake-movable =
       record {
-        coded = question-small (move-tells own target c s) [] none-placed;
+        coded = question-codable (move-tells own target c s) [] none-placed;
         values = λ e. let m = move-small own target c s e in (fits-below (omega (arith, m .0)), fits-below (omega (arith, m .1)));
       }

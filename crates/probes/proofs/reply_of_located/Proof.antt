@@ -1,30 +1,30 @@
--- `probes::from_located` meets its contract: a case for each answer, whose station and count fit a signed number.
+-- `probes::reply_of_located` meets its contract: a case for each answer, whose station and count fit a signed number.
 use mathlib.Core.Path.{subst}
 use mir.Syntax.{w64}
 use mir.Facts.{sfits-widen}
 use mir.ValLaws.{toZ-ofZ, toZ-pos}
 use Rattle.model.specs.declared.Located.{Located}
 use borrow.Author.Needs.{needs}
-use Rattle.probes.specs.Replies.{fromLocated, Sendable}
-use Rattle.probes.proofs.from_located.Statement.{statement}
-use Rattle.probes.proofs.from_located.Tie as tie
+use Rattle.probes.specs.Replies.{replyOfLocated, Sendable}
+use Rattle.probes.proofs.reply_of_located.Statement.{statement}
+use Rattle.probes.proofs.reply_of_located.Tie as tie
 
 enum-known-answer : tie.Need-enum-known-answer
 enum-known-answer c = search needs
 
 cast-t8 : tie.Need-cast-t8
-unfolding fromLocated Sendable
-cast-t8 c = let k = c .before in sfits-widen tt (subst (λ (a : Located). Sendable 16 (fromLocated a)) (k .answer .given .1) (k .before .before .pre) .1)
+unfolding replyOfLocated Sendable
+cast-t8 c = let k = c .before in sfits-widen tt (subst (λ (a : Located). Sendable 16 (replyOfLocated a)) (k .answer .given .1) (k .before .before .pre) .1)
 
 cast-t9 : tie.Need-cast-t9
-unfolding fromLocated Sendable
-cast-t9 c = let k = c .before in sfits-widen tt (subst (λ (a : Located). Sendable 16 (fromLocated a)) (k .answer .given .1) (k .before .before .pre) .4)
+unfolding replyOfLocated Sendable
+cast-t9 c = let k = c .before in sfits-widen tt (subst (λ (a : Located). Sendable 16 (replyOfLocated a)) (k .answer .given .1) (k .before .before .pre) .4)
 
 enum-known-answer-2 : tie.Need-enum-known-answer-2
 enum-known-answer-2 c = search needs
 
 returns : tie.Need-returns
-unfolding fromLocated
+unfolding replyOfLocated
 returns c =
     let told = c .known-told .given in
     let g = c .before .answer .given in
@@ -37,9 +37,9 @@ returns c =
     )
 
 returns-2 : tie.Need-returns-2
-unfolding fromLocated
+unfolding replyOfLocated
 returns-2 c = rw (c .before .answer2 .given .1)
 
-pub from-located-spec : {M : Type 1} → statement M
-from-located-spec =
+pub reply-of-located-spec : {M : Type 1} → statement M
+reply-of-located-spec =
     tie.close (tie.spec enum-known-answer cast-t8 cast-t9 enum-known-answer-2 returns returns-2)

@@ -26,17 +26,17 @@ twoSize = 8
 abbrev pub fourSize : ℕ
 fourSize = 16
 
-abbrev pub firstAt : ℕ
-firstAt = 0
+abbrev pub slotA : ℕ
+slotA = 0
 
-abbrev pub secondAt : ℕ
-secondAt = 4
+abbrev pub slotB : ℕ
+slotB = 4
 
-abbrev pub thirdAt : ℕ
-thirdAt = 8
+abbrev pub slotC : ℕ
+slotC = 8
 
-abbrev pub fourthAt : ℕ
-fourthAt = 12
+abbrev pub slotD : ℕ
+slotD = 12
 
 -- a question to a crest in room of n bytes: 18 for other room, then the crest's own refusals and the question's
 unfoldable pub callOf : {A : Type 0} → (A → PaperAnswer) → (A → List ℕ → List ℕ) → ℕ → (List Element → Question A) → Crest → List ℕ → ℕ × List ℕ
@@ -49,7 +49,7 @@ callOf paperOf bytes n question c room =
 
 unfoldable pub placedBytes : Placed → List ℕ → List ℕ
 unfolding putAll
-placedBytes (PlacedAt x y tx ty) old = putAll old (field firstAt (i32Bytes x) ∷ field secondAt (i32Bytes y) ∷ field thirdAt (i32Bytes tx) ∷ field fourthAt (i32Bytes ty) ∷ [])
+placedBytes (PlacedAt x y tx ty) old = putAll old (field slotA (i32Bytes x) ∷ field slotB (i32Bytes y) ∷ field slotC (i32Bytes tx) ∷ field slotD (i32Bytes ty) ∷ [])
 placedBytes (PlacedRefused r) old = old
 
 abbrev pub positionCall : Crest → ℤ → List ℕ → ℕ × List ℕ
@@ -60,7 +60,7 @@ positionCall c s room = callOf paperOfPlaced placedBytes fourSize (stationQuesti
 unfoldable pub locatedBytes : Located → List ℕ → List ℕ
 unfolding putAll
 locatedBytes (LocatedAt station offset residual visits) old =
-    putAll old (field firstAt (u32Bytes station) ∷ field secondAt (i32Bytes offset) ∷ field thirdAt (i32Bytes residual) ∷ field fourthAt (u32Bytes visits) ∷ [])
+    putAll old (field slotA (u32Bytes station) ∷ field slotB (i32Bytes offset) ∷ field slotC (i32Bytes residual) ∷ field slotD (u32Bytes visits) ∷ [])
 locatedBytes (LocatedRefused r) old = old
 
 abbrev pub locateCall : Crest → Point → List ℕ → ℕ × List ℕ
@@ -70,7 +70,7 @@ locateCall c p room = callOf paperOfLocated locatedBytes fourSize (pointQuestion
 
 unfoldable pub inverseBytes : Inverse → List ℕ → List ℕ
 unfolding putAll
-inverseBytes (InverseAt x y) old = putAll old (field firstAt (i32Bytes x) ∷ field secondAt (i32Bytes y) ∷ [])
+inverseBytes (InverseAt x y) old = putAll old (field slotA (i32Bytes x) ∷ field slotB (i32Bytes y) ∷ [])
 inverseBytes (InverseRefused r) old = old
 
 abbrev pub inverseCall : Crest → ℤ → ℤ → List ℕ → ℕ × List ℕ

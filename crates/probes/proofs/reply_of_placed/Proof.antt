@@ -1,10 +1,10 @@
--- `probes::from_placed` meets its contract: a case for each answer.
+-- `probes::reply_of_placed` meets its contract: a case for each answer.
 use mir.Syntax.{w64}
 use mir.ValLaws.{toZ-ofZ}
 use borrow.Author.Needs.{needs}
-use Rattle.probes.specs.Replies.{fromPlaced}
-use Rattle.probes.proofs.from_placed.Statement.{statement}
-use Rattle.probes.proofs.from_placed.Tie as tie
+use Rattle.probes.specs.Replies.{replyOfPlaced}
+use Rattle.probes.proofs.reply_of_placed.Statement.{statement}
+use Rattle.probes.proofs.reply_of_placed.Tie as tie
 
 enum-known-answer : tie.Need-enum-known-answer
 enum-known-answer c = search needs
@@ -13,7 +13,7 @@ enum-known-answer-2 : tie.Need-enum-known-answer-2
 enum-known-answer-2 c = search needs
 
 returns : tie.Need-returns
-unfolding fromPlaced
+unfolding replyOfPlaced
 returns c =
     let told = c .known-told .given in
     let g = c .before .answer .given in
@@ -26,8 +26,8 @@ returns c =
     )
 
 returns-2 : tie.Need-returns-2
-unfolding fromPlaced
+unfolding replyOfPlaced
 returns-2 c = rw (c .before .answer2 .given .1)
 
-pub from-placed-spec : {M : Type 1} → statement M
-from-placed-spec = tie.close (tie.spec enum-known-answer enum-known-answer-2 returns returns-2)
+pub reply-of-placed-spec : {M : Type 1} → statement M
+reply-of-placed-spec = tie.close (tie.spec enum-known-answer enum-known-answer-2 returns returns-2)

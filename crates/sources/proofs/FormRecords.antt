@@ -10,7 +10,7 @@ use Rattle.model.specs.Writer.{countFits}
 use Rattle.model.proofs.Verdict.{done→all}
 use Rattle.fields.proofs.PartsOf.{length-part}
 use Rattle.model.proofs.ForEach.{holds-one}
-use Rattle.crestfile.proofs.Crest.{blocks→crest, count-fits, crest-count}
+use Rattle.crestfile.proofs.SoundFile.{blocks→sound-file, count-fits, sound-file-count}
 use Rattle.crestfile.proofs.Part.{record-within}
 use Rattle.sources.specs.declared.Form.{Form}
 use Rattle.sources.specs.declared.Form.the-variants.{File, Row}
@@ -18,7 +18,7 @@ use Rattle.sources.specs.Sources.{layoutRules, recordsIn, countIn, start
 
 pub records-fit : (form : Form) (crest amendment : List ℕ) → Readable form crest amendment → countFits (length (recordsIn form crest amendment)) ≡ true
 unfolding layoutRules recordsIn
-records-fit File crest amendment e = crest-count (blocks→crest crest e) .0
+records-fit File crest amendment e = sound-file-count (blocks→sound-file crest e) .0
 records-fit Row crest amendment e = holds-one (done→all _ e)
 
 pub records-counted : (form : Form) (crest amendment : List ℕ) → Readable form crest amendment → (1 ≤ countIn form crest amendment) × (countIn form crest amendment ≤ mostRecords)

@@ -22,7 +22,7 @@ use Rattle.blocks.proofs.BlockRules.{Sound}
 use Rattle.crestfile.proofs.Blocks.{Blocks, file-length, used-bytes, each-sound, records-count, sound-row}
 
 -- `file` is 1 to 4 sound blocks, and `records` are the records in use in them.
-pub record Crest (file records : List ℕ) : Type 0 where
+pub record SoundFile (file records : List ℕ) : Type 0 where
   pub blocks : ℕ
   pub some : 1 ≤ blocks
   pub atMost : blocks ≤ 4
@@ -30,21 +30,21 @@ pub record Crest (file records : List ℕ) : Type 0 where
 
 -- ---- the length
 
-pub record Sized (n : ℕ) : Type 0 where
+pub record WholeBlocks (n : ℕ) : Type 0 where
   pub whole : n ≡ 512 * (n / 512)
   pub some : 1 ≤ n / 512
   pub atMost : n / 512 ≤ 4
 
-pub fits→sized : (n : ℕ) → lengthFits n ≡ true → Sized n
+pub fits→blocks : (n : ℕ) → lengthFits n ≡ true → WholeBlocks n
 unfolding lengthFits
-fits→sized n =
+fits→blocks n =
     either-test _ _
     (either-test _ _
     (either-test _ _ (is 1 (omega arith) (omega arith)) (is 2 (omega arith) (omega arith)))
     (is 3 (omega arith) (omega arith)))
     (is 4 (omega arith) (omega arith))
   where
-    is : (m : ℕ) → 1 ≤ m → m ≤ 4 → eqb n (512 * m) ≡ true → Sized n
+    is : (m : ℕ) → 1 ≤ m → m ≤ 4 → eqb n (512 * m) ≡ true → WholeBlocks n
     is m s t e =
         let h = eq-test n (512 * m) .0 e in
         record { whole = omega arith; some = omega arith; atMost = omega arith }
@@ -97,36 +97,36 @@ accepted→blocks file e = all→done (accepted→both file e .0)
 
 -- ---- rows and rules
 
-pub crest-blocks : {file records : List ℕ} (c : Crest file records) → blockCount file ≡ c .blocks
-crest-blocks c = omega (arith, file-length (c .row))
+pub sound-file-blocks : {file records : List ℕ} (c : SoundFile file records) → blockCount file ≡ c .blocks
+sound-file-blocks c = omega (arith, file-length (c .row))
 
-pub crest-records : {file records : List ℕ} → Crest file records → recordBytes file ≡ records
+pub sound-file-records : {file records : List ℕ} → SoundFile file records → recordBytes file ≡ records
 unfolding recordBytes
-crest-records {file} c = ap (λ n. usedBytes n file) (crest-blocks c) ∙ used-bytes (c .row)
+sound-file-records {file} c = ap (λ n. usedBytes n file) (sound-file-blocks c) ∙ used-bytes (c .row)
 
-pub crest→accepted : {file records : List ℕ} → Crest file records → AllHold (recordsRules records) → checkOf (fileCrest file) ≡ Done
-crest→accepted {file} c a =
+pub sound-file→accepted : {file records : List ℕ} → SoundFile file records → AllHold (recordsRules records) → checkOf (fileCrest file) ≡ Done
+sound-file→accepted {file} c a =
     both→accepted file
     (passed→blocks file (record {
       size = rw (file-length (c .row)) (blocks→fits (c .blocks) (c .some) (c .atMost));
-      sums = λ b l. sound b (omega (arith, crest-blocks c)) .sums;
-      fields = λ b l. rw (crest-blocks c) (sound b (omega (arith, crest-blocks c)) .fields);
+      sums = λ b l. sound b (omega (arith, sound-file-blocks c)) .sums;
+      fields = λ b l. rw (sound-file-blocks c) (sound b (omega (arith, sound-file-blocks c)) .fields);
     }))
-    (rw (crest-records c) a)
+    (rw (sound-file-records c) a)
   where
     sound : (b : ℕ) → b < c .blocks → Sound (c .blocks) b (blockOf file b)
     sound b l = rw zero-add at (each-sound (c .row) b l)
 
 -- the blocks' rules alone make a file a row
-pub blocks→crest : (file : List ℕ) → verdict (blocksRules file) ≡ Done → Crest file (recordBytes file)
-blocks→crest file e =
+pub blocks→sound-file : (file : List ℕ) → verdict (blocksRules file) ≡ Done → SoundFile file (recordBytes file)
+blocks→sound-file file e =
     crest (sound-row (blockCount file) (blockCount file) 0 file (zero-add _) (sized .some) (sized .whole) (λ b l. rw zero-add (sound b l)))
   where
     p : Passed file
     p = blocks→passed file (done→all (blocksRules file) e)
 
-    sized : Sized (length file)
-    sized = fits→sized (length file) (p .size)
+    sized : WholeBlocks (length file)
+    sized = fits→blocks (length file) (p .size)
 
     sound : (b : ℕ) → b < blockCount file → Sound (blockCount file) b (blockOf file b)
     sound b l =
@@ -136,13 +136,13 @@ blocks→crest file e =
           fields = p .fields b l;
         }
 
-    crest : (records : List ℕ) × Blocks (blockCount file) (blockCount file) 0 file records → Crest file (recordBytes file)
+    crest : (records : List ℕ) × Blocks (blockCount file) (blockCount file) 0 file records → SoundFile file (recordBytes file)
     crest (records, row) =
-        let c : Crest file records = record { blocks = blockCount file; some = sized .some; atMost = sized .atMost; row = row } in
-        rw (crest-records c) c
+        let c : SoundFile file records = record { blocks = blockCount file; some = sized .some; atMost = sized .atMost; row = row } in
+        rw (sound-file-records c) c
 
-pub accepted→crest : (file : List ℕ) → checkOf (fileCrest file) ≡ Done → Crest file (recordBytes file) × AllHold (recordsRules (recordBytes file))
-accepted→crest file e = (blocks→crest file (accepted→blocks file e), accepted→both file e .1)
+pub accepted→sound-file : (file : List ℕ) → checkOf (fileCrest file) ≡ Done → SoundFile file (recordBytes file) × AllHold (recordsRules (recordBytes file))
+accepted→sound-file file e = (blocks→sound-file file (accepted→blocks file e), accepted→both file e .1)
 
 -- ---- the number of records
 
@@ -152,8 +152,8 @@ unfolding countFits
 count-fits n = both-tests (both-tests (eq-test _ _) (le-test _ _)) (le-test _ _)
 
 -- the records of a crest are as many as the writer takes, and need as many blocks as the crest has
-pub crest-count : {file records : List ℕ} (c : Crest file records) → (countFits (length records) ≡ true) × (blocksNeeded records ≡ c .blocks)
-crest-count {records = records} c =
+pub sound-file-count : {file records : List ℕ} (c : SoundFile file records) → (countFits (length records) ≡ true) × (blocksNeeded records ≡ c .blocks)
+sound-file-count {records = records} c =
     let (n, long, f) = records-count (c .row) in
     let some = c .some in
     let few = c .atMost in

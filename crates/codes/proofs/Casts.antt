@@ -20,8 +20,8 @@ module _ (z : ℤ) (fits : SFits w32 z) where
   pub wide-fits : SFits w64 (toZ w32 (ofZ w32 z))
   wide-fits = subst (λ (y : ℤ). SFits w64 y) (sym same) (sfits-widen tt fits)
 
-  pub wide : toZ w64 (ofZ w64 (toZ w32 (ofZ w32 z))) ≡ z
-  wide = ap (λ (y : ℤ). toZ w64 (ofZ w64 y)) same ∙ toZ-ofZ w64 z (sfits-widen tt fits)
+  pub widened : toZ w64 (ofZ w64 (toZ w32 (ofZ w32 z))) ≡ z
+  widened = ap (λ (y : ℤ). toZ w64 (ofZ w64 y)) same ∙ toZ-ofZ w64 z (sfits-widen tt fits)
 
 -- a point of two arguments, as the call gets them
 pub as-came : {p : Point} {x y : ℤ} → SFits w32 x → SFits w32 y → p ≡ record { x = toZ w32 (ofZ w32 x); y = toZ w32 (ofZ w32 y) } → p ≡ record { x = x; y = y }
@@ -29,7 +29,7 @@ as-came {p} {x} {y} f g e = e ∙ rw (toZ-ofZ w32 x f, toZ-ofZ w32 y g)
 
 -- a field stored by a cast, after what the store before it left
 pub then-put : {l k m : List ℕ} (at : ℕ) (z : ℤ) → SFits w64 z → SFits w32 z → l ≡ k → m ≡ put l at (i32Bytes (toZ w32 (ofZ w32 (toZ w64 (ofZ w64 z))))) → m ≡ put k at (i32Bytes z)
-then-put {l} at z wide fits e f = f ∙ ap (λ (y : ℤ). put l at (i32Bytes y)) (narrow z (wide .sfits) fits) ∙ ap (λ (x : List ℕ). put x at (i32Bytes z)) e
+then-put {l} at z widened fits e f = f ∙ ap (λ (y : ℤ). put l at (i32Bytes y)) (narrow z (widened .sfits) fits) ∙ ap (λ (x : List ℕ). put x at (i32Bytes z)) e
 
 -- two numbers of 32 bits through their 64, after what the call before left
 pub then-two : {l k m : List ℕ} (at : ℕ) (a b : ℤ) → mag a < 2 ^ 63 → mag b < 2 ^ 63 → l ≡ k → m ≡ putTwo l at (toZ w64 (ofZ w64 a)) (toZ w64 (ofZ w64 b)) → m ≡ putTwo k at a b

@@ -95,7 +95,7 @@ module _ (d : ℕ) (h : 0 < d) (n k : ℤ) where
       near-below
       (≤ℤ-total (near n d) k)
 
--- near(n, d) is the nearest whole number, a half going up; `near-unique` says that it is the only one.
+-- near(n, d) is the nearest whole number, a half going up, and `nearest-only` below says that no other is.
 pub near-nearest : {d : ℕ} → 0 < d → (n : ℤ) → Nearest n d (near n d)
 near-nearest {d} h n =
     record {

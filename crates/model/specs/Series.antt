@@ -88,7 +88,7 @@ fromAnchor true length s = length - s
 abbrev pub wholeLength : Element → ℕ
 wholeLength e = e .length
 
--- the fraction numerator / denominator, with a denominator above 0
+-- the fraction numerator / denominator; that of an accepted element's turn has a denominator above 0
 pub record Fraction : Type 0 where
   pub numerator : ℤ
   pub denominator : ℕ
@@ -113,7 +113,7 @@ unfoldable pub angleOf : Fraction → ℤ
 unfolding near
 angleOf φ = near (pos ONE *ℤ φ .numerator) (φ .denominator)
 
--- "line: u = 100s, v = 0"; "arc: .."; "spiral: U = .., V = ..": u and v, but U and V of a clothoid
+-- "line: u = 100s, v = 0"; "arc: u = .."; "spiral: U = ..": u and v, but U and V of a clothoid
 unfoldable pub localOf : Shape → ℕ → ℤ → Local
 unfolding seriesAlong seriesAside
 localOf Straight l t = record { along = pos (100 * l); aside = pos 0 }

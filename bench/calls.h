@@ -1,4 +1,4 @@
-/* Every call of the three static libraries on one crest and one point, for stack.c and calls.c. */
+/* Every call of the two static libraries on one crest and one point, for stack.c and calls.c. */
 #include <stdint.h>
 #include <stdio.h>
 #include <string.h>

@@ -3,6 +3,8 @@ use crate::said::Row;
 use crate::said::is_at;
 use fields::eight::float;
 use fields::eight::u64_at;
+use whole_numbers::BEYOND;
+use whole_numbers::NEGATIVE_BEYOND;
 use whole_numbers::WholeNumber;
 use whole_numbers::whole_of;
 use whole_numbers::whole_of_bits;
@@ -15,13 +17,7 @@ fn code(n: WholeNumber) -> i64
 {
     match n {
         WholeNumber::Is(z) => z,
-        WholeNumber::Beyond { negative } => {
-            if negative {
-                -0x4000_0000_0000_0000
-            } else {
-                0x4000_0000_0000_0000
-            }
-        }
+        WholeNumber::Beyond { negative } => { if negative { NEGATIVE_BEYOND } else { BEYOND } }
         WholeNumber::Not => 0x7fff_ffff_ffff_ffff,
     }
 }

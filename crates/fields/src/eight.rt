@@ -8,6 +8,14 @@ ghost use mir.Syntax.{w64};
 ghost use mir.Val.{toZ};
 ghost use Rattle.model.specs.Records.{u32At};
 
+// The highest bit: of an i64 and of an f64 its sign.
+pub const SIGN: u64 = 1 << 63;
+
+// The bits of an f64 below its sign: 11 of the exponent, which is the greatest of infinities and nans, and 52 of the fraction.
+pub const FRACTION: u64 = 1 << 52;
+
+pub const NOT_FINITE: u64 = 2047;
+
 // A half, wide.
 fn wide(x: u32) -> u64
     ensures { λ r. ⌜ r ≡ x ⌝ }
@@ -28,7 +36,7 @@ pub fn u64_at(s: &[u8], at: usize) -> u64
 pub fn signed(bits: u64) -> i64
     ensures { λ r. ⌜ r ≡ toZ w64 bits ⌝ }
 {
-    if bits < 0x8000_0000_0000_0000 {
+    if bits < SIGN {
         bits as i64
     } else {
         !((!bits) as i64)
@@ -39,9 +47,9 @@ pub fn signed(bits: u64) -> i64
 pub fn float(bits: u64) -> f64
     ensures { λ r. ⌜ r ≡ ofBits binary64 bits ⌝ }
 {
-    let exponent = bits % 0x8000_0000_0000_0000 / 0x10_0000_0000_0000;
-    let fraction = bits % 0x10_0000_0000_0000;
-    if (exponent == 2047) & (fraction != 0) {
+    let exponent = bits % SIGN / FRACTION;
+    let fraction = bits % FRACTION;
+    if (exponent == NOT_FINITE) & (fraction != 0) {
         return 0.0 / 0.0;
     }
     f64::from_bits(bits)

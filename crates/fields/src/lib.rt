@@ -33,11 +33,14 @@ pub fn u32_at(s: &[u8], at: usize) -> u32
     wide(s[at]) + 256 * wide(s[at + 1]) + 65536 * wide(s[at + 2]) + 16777216 * wide(s[at + 3])
 }
 
+// The highest bit of an i32: its sign.
+const SIGN: u32 = 1 << 31;
+
 // Two's complement: the i32 with these bits.
 pub fn signed(bits: u32) -> i32
     ensures { λ r. ⌜ r ≡ toZ w32 bits ⌝ }
 {
-    if bits < 0x8000_0000 {
+    if bits < SIGN {
         bits as i32
     } else {
         !((!bits) as i32)

@@ -14,7 +14,7 @@ use Rattle.model.specs.declared.KindByte.the-variants.{Damaged, Known, L
 use Rattle.model.specs.declared.Element.{Element}
 use Rattle.model.specs.declared.Point.{Point}
 use Rattle.model.specs.Kinds.{decide, kindByte, shapeOf}
-use Rattle.model.specs.Records.{byteAt, u16At, u32At, i32At, u32Bytes, i32Bytes, part, allZero, sumA, sumB, blockSize, recordSize, perBlock, fieldsAt, editionAt, edition, zerosAt, zeroCount, sumsAt, sumBAt, kindAt, firstZerosAt, firstZeroCount, recordLengthAt, xAt, yAt, cAt, sAt, radiusAt, lastZerosAt, lastZeroCount, blockCount, blockOf, usedIn, recordBytes, countOf, recordOf}
+use Rattle.model.specs.Records.{byteAt, u16At, u32At, i32At, u32Bytes, i32Bytes, part, allZero, sumA, sumB, blockSize, recordSize, perBlock, fieldsAt, editionAt, edition, zerosAt, zeroCount, sumsAt, sumBAt, kindAt, firstZerosAt, firstZeroCount, recordLengthAt, xAt, yAt, cAt, sAt, radiusAt, lastZerosAt, lastZeroCount, blockCount, blockOf, usedIn, recordBytes, countOf, recordOf, mostRecords}
 use Rattle.model.specs.Refusals.{Rule, rule, rule₀, forEach, byteCount, checksum, blockField, damagedRecord, laterKind, fieldOutOfRange, notUnit, gap, kink}
 use Rattle.model.specs.Series.{wholeLength, positionOn, tangentOn}
 
@@ -23,6 +23,10 @@ use Rattle.model.specs.Series.{wholeLength, positionOn, tangentOn}
 -- "L from 1 to 500,000"
 abbrev pub longestElement : ℕ
 longestElement = 500000
+
+-- "A crest alignment is 1 to 60 elements": so long in all, at the most
+abbrev pub longestAlignment : ℕ
+longestAlignment = mostRecords * longestElement
 
 -- "x and y within ±200,000,000", and "The frame: every given point lies within ±200,000,000 in both coordinates."
 abbrev pub frame : ℕ

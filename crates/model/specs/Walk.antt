@@ -9,17 +9,30 @@ use Rattle.model.specs.declared.Element.{Element}
 use Rattle.model.specs.declared.Point.{Point}
 use Rattle.model.specs.Stations.{total, D}
 
+-- ---- its numbers
+
+-- "First every station that is a multiple of 1,000"
+abbrev pub firstStep : ℕ
+firstStep = 1000
+
+-- "the next station is s + 1 if a − b < 31, else s + 1 + (a − b − 31) div 150"
+abbrev pub rootSlack : ℕ
+rootSlack = 31
+
+abbrev pub stepDivisor : ℕ
+stepDivisor = 150
+
 -- ---- the first pass
 
--- n stations from s on, 1,000 apart
+-- n stations from s on, a step apart
 unfoldable pub multiplesFrom : ℕ → ℕ → List ℕ
 multiplesFrom zero s = []
-multiplesFrom (suc n) s = s ∷ multiplesFrom n (s + 1000)
+multiplesFrom (suc n) s = s ∷ multiplesFrom n (s + firstStep)
 
 -- "First every station that is a multiple of 1,000, and T if it isn't one"
 unfoldable pub firstVisits : ℕ → List ℕ
 unfolding multiplesFrom
-firstVisits t = multiplesFrom (t / 1000 + 1) 0 ++ cond (eqb (t % 1000) 0) [] (t ∷ [])
+firstVisits t = multiplesFrom (t / firstStep + 1) 0 ++ cond (eqb (t % firstStep) 0) [] (t ∷ [])
 
 -- "the best D of these is kept": the least d of the stations, and of b
 unfoldable pub bestOf : (ℕ → ℕ) → ℕ → List ℕ → ℕ
@@ -36,7 +49,7 @@ firstBest d t = bestOf d (d 0) (firstVisits t)
 -- how many stations are left out. The subtraction of natural numbers stops at 0, and so does what is left out where a − b < 31.
 unfoldable pub skipped : ℕ → ℕ → ℕ
 unfolding root
-skipped here best = (root here - root best - 31) / 150
+skipped here best = (root here - root best - rootSlack) / stepDivisor
 
 -- An element's own stations from s on, n of them, where the best so far is b. "a step beyond an element's last own station goes to the next element's first":
 -- with fewer than j + 1 stations left none is visited. The first argument only bounds the recursion; n is enough.

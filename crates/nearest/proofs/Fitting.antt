@@ -11,6 +11,7 @@ use Rattle.integers.proofs.Abs.{≤-square}
 use Rattle.model.specs.declared.Element.{Element}
 use Rattle.model.specs.declared.Point.{Point}
 use Rattle.model.specs.declared.Located.the-variants.{At as LocatedAt}
+use Rattle.model.specs.Acceptance.{longestAlignment}
 use Rattle.model.specs.Accepted.{AllAccepted}
 use Rattle.model.specs.Stations.{positionAt, tangentAt, distanceSq, D}
 use Rattle.model.specs.Judged.{judged, residualOf, offsetOf, minus, residualAt, offsetAt}
@@ -22,7 +23,7 @@ use Rattle.stations.proofs.StationTotal.{total-within}
 use Rattle.walk_laws.proofs.Outcomes.{answered}
 
 pub record Fits (station : ℕ) (offset residual : ℤ) : Type 0 where
-  pub short : station ≤ 30000000
+  pub short : station ≤ longestAlignment
   pub aside : natAbs offset ≤ 80000000
   pub along : natAbs residual ≤ 80000000
 

@@ -6,7 +6,7 @@ use native.Mathlib.Omega.{arith}
 use lib.ListN.{length, take}
 use Rattle.model.specs.declared.Element.{Element}
 use Rattle.model.specs.Stations.{total}
-use Rattle.model.specs.Acceptance.{longestElement}
+use Rattle.model.specs.Acceptance.{longestAlignment, longestElement}
 use Rattle.model.specs.Accepted.{AllAccepted}
 use Rattle.model.proofs.Accepted.{numbers}
 use Rattle.walk_laws.proofs.Own.{total-at}
@@ -21,13 +21,13 @@ total-within [] h = omega arith
 total-within (e ∷ es) h = omega (arith, numbers (h .0) .longest, total-within es (h .1))
 
 module _ {form : Form} {crest amendment : List ℕ} {count : ℕ} (r : RecordsRead form crest amendment count) where
-  pub read-total : total (elementsIn form crest amendment) ≤ 30000000
+  pub read-total : total (elementsIn form crest amendment) ≤ longestAlignment
   read-total = omega (arith, total-within (elementsIn form crest amendment) (r .source .alignment .each), read-length r, read-count r .1)
 
   -- where element i ends
   pub read-ends : (i : ℕ) → i < count →
       (total (take (suc i) (elementsIn form crest amendment)) ≡ total (take i (elementsIn form crest amendment)) + elementIn form crest amendment i .length)
-      × (total (take i (elementsIn form crest amendment)) + elementIn form crest amendment i .length ≤ 30000000)
+      × (total (take i (elementsIn form crest amendment)) + elementIn form crest amendment i .length ≤ longestAlignment)
   read-ends i h =
       let t = total-at (elementsIn form crest amendment) i (elementIn form crest amendment i) (read-at r i h) in
       (t .0, omega (arith, t .1, read-total))

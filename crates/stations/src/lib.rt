@@ -19,6 +19,7 @@ ghost use mathlib.Core.Path.{_≡_};
 ghost use Prim.Native.Nat.{_≤_, _<_, _^_};
 ghost use lib.Dec.{leb};
 ghost use lib.IntN.{natAbs, _*ℤ_};
+ghost use Rattle.model.specs.Acceptance.{longestAlignment};
 ghost use Rattle.model.specs.Stations.{atElement, atStation, positionAt, tangentAt, isStation, total as totalOf};
 ghost use Rattle.elements.specs.Reached.{placementOf};
 ghost use Rattle.model.specs.Rounding.{ONE, near};
@@ -36,7 +37,7 @@ pub struct OnElement {
 // T, the last station: the sum of the lengths.
 pub fn total(crest: &[u8], amendment: &[u8], form: Form) -> u64
     requires { ⌜ SourceAccepted form (now crest) (now amendment) ⌝ }
-    ensures { λ r. ⌜ (r ≡ totalOf (elementsLent form (crest .entry) (amendment .entry))) × (r ≤ 30000000) ⌝ }
+    ensures { λ r. ⌜ (r ≡ totalOf (elementsLent form (crest .entry) (amendment .entry))) × (r ≤ longestAlignment) ⌝ }
 {
     let count = count_in(crest, amendment, form);
     let mut i: usize = 0;

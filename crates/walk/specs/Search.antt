@@ -7,11 +7,11 @@ use lib.Dec.{eqb, ltb}
 use Rattle.integers.specs.Root.{root}
 use Rattle.model.specs.declared.Element.{Element}
 use Rattle.model.specs.declared.Point.{Point}
-use Rattle.model.specs.Acceptance.{longestElement}
+use Rattle.model.specs.Acceptance.{longestAlignment, longestElement}
 use Rattle.model.specs.Series.{positionOn}
 use Rattle.model.specs.Stations.{distanceSq, D}
 use Rattle.model.specs.Judged.{judged}
-use Rattle.model.specs.Walk.{multiplesFrom, skipped, elementVisits, ownStations, visitCount}
+use Rattle.model.specs.Walk.{multiplesFrom, skipped, elementVisits, ownStations, visitCount, firstStep, rootSlack}
 use Rattle.plane.specs.Frame.{InFrame}
 use Rattle.walk.specs.declared.Pass.{Pass}
 use Rattle.walk.specs.declared.Pass.the-variants.{First, Second}
@@ -44,7 +44,7 @@ seenOver d (s ∷ ss) w = seenOver d ss (seenAt (d s) s w)
 
 -- "s + 1 if a − b < 31": the root b of the best, and the limit (b + 31)², below which D has a root a with a − b < 31. A limit of 0 says that they are not known.
 unfoldable pub Known : ℕ → Stride → Type 0
-Known b t = 0 < t .limit → (t .root ≡ root b) × (t .limit ≡ (root b + 31) * (root b + 31))
+Known b t = 0 < t .limit → (t .root ≡ root b) × (t .limit ≡ (root b + rootSlack) * (root b + rootSlack))
 
 -- the step after a visit at the distance d, where the best before it was b: "at s the best becomes D(s) if that is less"
 pub record Strided (d b : ℕ) (r : Stride) : Type 0 where
@@ -59,18 +59,18 @@ unfoldable pub onElement : Element → ℕ → Point → ℕ → ℕ
 unfolding distanceSq positionOn
 onElement e start q s = distanceSq q (positionOn e (s - start))
 
--- how many multiples of 1000 lie below s
+-- how many multiples of the first pass's step lie below s
 abbrev pub above : ℕ → ℕ
-above s = (s + 999) / 1000
+above s = (s + (firstStep - 1)) / firstStep
 
 -- "and T if it isn't one": T is an own station of the last element
 unfoldable pub endVisit : ℕ → ℕ → ℕ → List ℕ
-endVisit n own s = cond (eqb own n || eqb ((s + n) % 1000) 0) [] ((s + n) ∷ [])
+endVisit n own s = cond (eqb own n || eqb ((s + n) % firstStep) 0) [] ((s + n) ∷ [])
 
 -- "every station that is a multiple of 1,000", of those from s on and below s + own
 unfoldable pub firstOn : ℕ → ℕ → List ℕ
 unfolding multiplesFrom
-firstOn own s = multiplesFrom (above (s + own) - above s) (above s * 1000)
+firstOn own s = multiplesFrom (above (s + own) - above s) (above s * firstStep)
 
 -- the stations that a pass visits on the element, where the best before it is b
 unfoldable pub passVisits : Pass → (ℕ → ℕ) → ℕ → ℕ → ℕ → ℕ → List ℕ
@@ -102,6 +102,6 @@ pub record Passable (p : Prepared) (own start : ℕ) (q : Point) (w : Seen) : Ty
   pub frame : InFrame q
   pub short : own ≤ p .element .length + 1
   pub long : p .element .length ≤ longestElement
-  pub early : start ≤ 30000000
+  pub early : start ≤ longestAlignment
   pub best : w .best ≤ unreached
   pub visits : w .visits ≤ 2 ^ 61

@@ -10,6 +10,7 @@ ghost use Rattle.integers.specs.Root.{root};
 ghost use Rattle.model.specs.Acceptance.{frame};
 ghost use Rattle.model.specs.Series.{positionOn};
 ghost use Rattle.model.specs.Stations.{distanceSq};
+ghost use Rattle.model.specs.Walk.{rootSlack, stepDivisor};
 ghost use Rattle.plane.specs.Frame.{InFrame};
 ghost use Rattle.elements.specs.Extent.{widestPosition};
 ghost use Rattle.elements.specs.Prepared.{Ready};
@@ -77,7 +78,7 @@ pub fn seen(d: u64, s: u64, w: Seen) -> Seen
 fn rooted(best: u64, t: Stride) -> Stride
     requires { ⌜ best ≤ unreached ⌝ }
     requires { ⌜ Known best t ⌝ }
-    ensures { λ r. ⌜ (r .root ≡ root best) × (r .limit ≡ (root best + 31) * (root best + 31)) ⌝ }
+    ensures { λ r. ⌜ (r .root ≡ root best) × (r .limit ≡ (root best + rootSlack) * (root best + rootSlack)) ⌝ }
 {
     if t.limit > 0 {
         return t;
@@ -93,8 +94,8 @@ fn rooted(best: u64, t: Stride) -> Stride
 // How many stations are left out after one at the squared distance `d`, where b is the root of the best: a − b < 31 exactly where d is below
 // the limit, the square of b + 31.
 fn left_out(d: u64, b: u64, limit: u64) -> u64
-    requires { ⌜ limit ≡ (b + 31) * (b + 31) ⌝ }
-    ensures { λ r. ⌜ r ≡ (root d - b - 31) / 150 ⌝ }
+    requires { ⌜ limit ≡ (b + rootSlack) * (b + rootSlack) ⌝ }
+    ensures { λ r. ⌜ r ≡ (root d - b - rootSlack) / stepDivisor ⌝ }
     ensures small { λ r. ⌜ r < 2 ^ 32 ⌝ }
 {
     if d < limit {

@@ -7,6 +7,7 @@ use native.Mathlib.Numerals.{add-one}
 use lib.ListN.{length, take}
 use lib.Seq.{take-length}
 use Rattle.model.specs.declared.Element.{Element}
+use Rattle.model.specs.Acceptance.{longestAlignment}
 use Rattle.model.specs.Stations.{total}
 use Rattle.sources.specs.Sources.{elementsIn, elementsLent}
 use Rattle.sources.proofs.RecordsRead.{RecordsRead, read-asks, read-length, read-count}
@@ -37,7 +38,7 @@ element-in-requires c κs = read-asks (c .before .loop .inv .0) (c .before .loop
 ends : (c : tie.After-struct-known Inv-loop μ-loop) →
     let o = c .before .before .before in
     let end = o .loop .t + c .before .element-in .result .length in
-    (end ≡ total (take (suc (o .loop .i)) (es o))) × (end ≤ 30000000)
+    (end ≡ total (take (suc (o .loop .i)) (es o))) × (end ≤ longestAlignment)
 ends c =
     let o = c .before .before in
     let l = o .before .loop in

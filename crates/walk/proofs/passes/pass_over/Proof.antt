@@ -6,6 +6,7 @@ use native.Mathlib.Omega.{arith}
 use native.Mathlib.Numerals.{add-one}
 use lib.ListN.{length, take, drop, length-drop}
 use Rattle.model.specs.declared.Element.{Element}
+use Rattle.model.specs.Acceptance.{longestAlignment}
 use Rattle.model.specs.Accepted.{Accepted}
 use Rattle.model.specs.Stations.{total}
 use Rattle.model.specs.Walk.{ownStations}
@@ -45,7 +46,7 @@ module _ (c : tie.In-loop Inv-loop μ-loop) where
   accepted = read-accepted (c .before .loop .inv .0) (c .before .loop .i) (c .loop-test .taken)
 
   -- where it ends
-  ends : (total (take (suc (c .before .loop .i)) (es begun)) ≡ c .before .loop .start + el .length) × (c .before .loop .start + el .length ≤ 30000000)
+  ends : (total (take (suc (c .before .loop .i)) (es begun)) ≡ c .before .loop .start + el .length) × (c .before .loop .start + el .length ≤ longestAlignment)
   ends =
       let l = c .before .loop in
       let e = read-ends (l .inv .0) (l .i) (c .loop-test .taken) in

@@ -21,11 +21,12 @@ use Rattle.model.specs.Crest.{fileCrest, checkOf}
 use Rattle.model.specs.Answers.{located}
 use Rattle.model.specs.Readings.{wholeOf, answerTo}
 use Rattle.model.specs.Calls.{readingCall, acknowledgeCall}
+use Rattle.model.specs.Program.{u64At}
 use Rattle.whole_numbers.specs.declared.WholeNumber.{WholeNumber}
 use Rattle.whole_numbers.specs.declared.WholeNumber.the-variants.{Is, Beyond, Not}
 use Rattle.whole_numbers.specs.WholeNumbers.{shortOf}
 use Rattle.comparisons.specs.declared.notes.Told.{Told}
-use Rattle.comparisons.specs.Said.{u64At, i64At, isAt}
+use Rattle.comparisons.specs.Said.{i64At, isAt}
 use Rattle.comparisons.specs.Notes.{planeOf, lineOf, byCall, noteAgrees, lentAgrees, displayAgrees}
 
 -- ---- ELEMENT
@@ -92,9 +93,9 @@ numberAgrees row = isAt row 8 (numberCode (shortOf (wholeOf (ofBits binary64 (u6
 -- ---- CALL
 
 -- what the row's call returns, on these bytes of the run, and the bytes afterwards; no call returns 2^32 - 1
-unfoldable pub callOf : List ℕ → List ℕ → List ℕ → ℕ × List ℕ
+unfoldable pub calledBy : List ℕ → List ℕ → List ℕ → ℕ × List ℕ
 unfolding readingCall acknowledgeCall
-callOf row file lent =
+calledBy row file lent =
     byCall row (readingCall (answerTo (fileCrest file) (planeOf row)) lent) (readingCall (answerTo (fileCrest file) (lineOf row)) lent) (acknowledgeCall lent) (4294967295, lent)
 
 -- whether the run's 32 bytes are the row's
@@ -105,10 +106,10 @@ runIs row run =
 
 -- Where the run has the bytes that are lent: the returned value, and the run's bytes afterwards.
 unfoldable pub calledOn : List ℕ → List ℕ → List ℕ → ℕ × List ℕ
-unfolding callOf
+unfolding calledBy
 calledOn row file run =
     let lent = byteAt row 1 in
-    let came = callOf row file (take lent run) in
+    let came = calledBy row file (take lent run) in
     (came .0, came .1 ++ drop lent run)
 
 unfoldable pub callAgrees : List ℕ → List ℕ → List ℕ → Bool

@@ -17,8 +17,9 @@ use Rattle.model.specs.Records.{byteAt, u16At, part}
 use Rattle.model.specs.Crest.{fileCrest}
 use Rattle.model.specs.Readings.{answerTo, displayOf}
 use Rattle.model.specs.Run.{runSize, runAt, acknowledged, noted}
+use Rattle.model.specs.Program.{u64At}
 use Rattle.comparisons.specs.declared.notes.Told.{Told}
-use Rattle.comparisons.specs.Said.{u64At, isAt, floatIsAt}
+use Rattle.comparisons.specs.Said.{isAt, floatIsAt}
 
 -- the row's reading, of one sort or the other
 abbrev pub planeOf : List ℕ → Reading

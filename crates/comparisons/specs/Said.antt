@@ -7,10 +7,7 @@ use lib.Ieee.{Float, binary64, isNan, toBits}
 use lib.IntN.{ℤ}
 use mir.Syntax.{w64}
 use mir.Val.{toZ, ofZ}
-use Rattle.model.specs.Records.{u32At}
-
-abbrev pub u64At : List ℕ → ℕ → ℕ
-u64At l at = u32At l at + 4294967296 * u32At l (at + 4)
+use Rattle.model.specs.Program.{u64At}
 
 abbrev pub i64At : List ℕ → ℕ → ℤ
 i64At l at = toZ w64 (u64At l at)

@@ -7,11 +7,11 @@ use crest::crest_plane_reading;
 use fields::eight::float;
 use fields::eight::u64_at;
 ghost use mathlib.Core.Path.{_≡_};
-ghost use Rattle.comparisons.specs.Agreement.{callOf, runIs, callAgrees, runAfterCall};
+ghost use Rattle.comparisons.specs.Agreement.{calledBy, runIs, callAgrees, runAfterCall};
 
 // What the call of a row returns; no call returns 2^32 - 1.
 fn value(row: &Row, crest: &[u8], run: &mut [u8]) -> u32
-    ensures { λ r. ⌜ (r, now (run .exit)) ≡ callOf (now (row .entry)) (now (crest .entry)) (now (run .entry)) ⌝ }
+    ensures { λ r. ⌜ (r, now (run .exit)) ≡ calledBy (now (row .entry)) (now (crest .entry)) (now (run .entry)) ⌝ }
 {
     let one = float(u64_at(row, 8));
     let two = float(u64_at(row, 16));

@@ -7,7 +7,7 @@ pub mod WrongRuns
 pub mod WrittenThenRead
 pub mod ReadThenWritten
 pub mod WrittenBytes
--- Orders of refusals, and the answers that they come to.
+-- The places of refusals, and the refusals of a record.
 pub mod Places
 pub mod RecordRefusals
 -- The three demands.

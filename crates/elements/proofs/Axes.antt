@@ -23,9 +23,9 @@ use Rattle.model.specs.Series.{Local, wholeLength, turnOf, angleOf, directionOf
 use Rattle.rounding.specs.Rounded.{lowered}
 use Rattle.elements.specs.declared.Prepared.{Prepared}
 use Rattle.elements.specs.declared.series.Magnitudes.{Magnitudes}
-use Rattle.elements.specs.declared.series.Sides.{Sides}
+use Rattle.elements.specs.declared.series.Components.{Components}
 use Rattle.elements.specs.Prepared.{preparedOf, Ready}
-use Rattle.elements.specs.Reached.{Turnable, Near, sided, Measured, measured, measuredBy, measuredAt, Reachable, of, elementIn, pointOf, headingOf}
+use Rattle.elements.specs.Reached.{Turnable, Near, withAside, Measured, measured, measuredBy, measuredAt, Reachable, of, elementReached, pointOf, headingOf}
 use Rattle.elements.proofs.Extent.{unit-within, unit-within′, direction-along-within, direction-aside-within, facing-within, extent}
 use Rattle.elements.proofs.Ends.{no-angle, direction-0}
 use Rattle.elements.proofs.Preparing.{off-is}
@@ -147,11 +147,11 @@ module _ {p : Prepared} (y : Ready p) where
 
   -- ---- the direction
 
-  module _ (angle : ℕ) (d : Sides) (h : angle ≤ 2 ^ 29) (f : (s : ℕ) → s ≤ 1 → lowered s ≡ p .off → sided s d ≡ directionOf Circular (withSign s (pos angle))) where
+  module _ (angle : ℕ) (d : Components) (h : angle ≤ 2 ^ 29) (f : (s : ℕ) → s ≤ 1 → lowered s ≡ p .off → withAside s d ≡ directionOf Circular (withSign s (pos angle))) where
     abbrev turn : ℤ
     turn = withSign sign (pos angle)
 
-    direction : sided sign d ≡ directionOf Circular turn
+    direction : withAside sign d ≡ directionOf Circular turn
     direction = f sign (sign-small (e .radius)) (sym (off-is y))
 
     cosine-is : pos (d .along) ≡ directionOf Circular turn .along
@@ -206,9 +206,9 @@ direction-is Circular radius whole l = refl
 direction-is Clothoid radius whole l = refl
 
 -- what is reached at a station of an element that is prepared
-module _ {p : Prepared} {s : ℕ} (r : Magnitudes) (asked : Ready p × (s ≤ p .element .length)) (told : (x : Reachable (p .element .kind) (p .element .length) (p .off) (p .divisor) (p .half) s) → measured (signOf (elementIn x .radius)) r ≡ measuredAt (elementIn x) (lengthAt (elementIn x) s)) where
+module _ {p : Prepared} {s : ℕ} (r : Magnitudes) (asked : Ready p × (s ≤ p .element .length)) (told : (x : Reachable (p .element .kind) (p .element .length) (p .off) (p .divisor) (p .half) s) → measured (signOf (elementReached x .radius)) r ≡ measuredAt (elementReached x) (lengthAt (elementReached x) s)) where
   is-measured : measured (signOf (p .element .radius)) r ≡ measuredAt (p .element) (lengthAt (p .element) s)
-  unfolding elementIn
+  unfolding elementReached
   is-measured = told (of p s (asked .0) (asked .1))
 
   angle-is : withSign (signOf (p .element .radius)) (pos (r .angle)) ≡ angleAt (p .element) s

@@ -15,7 +15,7 @@ use Rattle.model.specs.Series.{localOf, fromAnchor, wholeLength, lengthAt}
 use Rattle.model.proofs.Accepted.{numbers}
 use Rattle.rounding.specs.Rounded.{lowered}
 use Rattle.elements.specs.declared.series.Magnitudes.{Magnitudes}
-use Rattle.elements.specs.Reached.{Curved, measured, measuredBy, measuredAt, quotientOf, Reachable, of, elementIn}
+use Rattle.elements.specs.Reached.{Curved, measured, measuredBy, measuredAt, quotientOf, Reachable, of, elementReached}
 use Rattle.elements.proofs.Angle.{lengthAt-whole}
 use Rattle.elements.proofs.Preparing.{arc-asks, spiral-asks, curved, measured-is}
 
@@ -47,8 +47,8 @@ spiral-asked (of p s y b) f = spiral-asks y (f .shaped) _ (within (p .element) b
 pub curve-asked : {k : Kind} {n o d h s : ℕ} → Reachable k n o d h s → (shape : Shape) {l a : ℕ} → From k shape n s l → a ≡ quotientOf shape l h d → Curved l a o
 curve-asked (of p s y b) shape f q = curved y shape (f .shaped) _ (within (p .element) b f) _ q
 
-pub reached : {k : Kind} {n o d h s : ℕ} (x : Reachable k n o d h s) (shape : Shape) {l a : ℕ} → From k shape n s l → a ≡ quotientOf shape l h d → (r : Magnitudes) → ((t : ℕ) → t ≤ 1 → lowered t ≡ o → measured t r ≡ measuredBy shape l (withSign t (pos a))) → measured (signOf (elementIn x .radius)) r ≡ measuredAt (elementIn x) (lengthAt (elementIn x) s)
-unfolding elementIn
+pub reached : {k : Kind} {n o d h s : ℕ} (x : Reachable k n o d h s) (shape : Shape) {l a : ℕ} → From k shape n s l → a ≡ quotientOf shape l h d → (r : Magnitudes) → ((t : ℕ) → t ≤ 1 → lowered t ≡ o → measured t r ≡ measuredBy shape l (withSign t (pos a))) → measured (signOf (elementReached x .radius)) r ≡ measuredAt (elementReached x) (lengthAt (elementReached x) s)
+unfolding elementReached
 reached (of p s y b) shape f q r m = measured-is y shape (f .shaped) _ (within (p .element) b f) _ q r m ∙ ap (measuredAt (p .element)) (at (p .element) f)
 
 -- on a line nothing is divided

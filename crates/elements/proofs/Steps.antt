@@ -8,8 +8,8 @@ use Rattle.integers.proofs.Signed.{*ℤ-sign, sign-*ℤ, sign-square}
 use Rattle.model.specs.Rounding.{ONE, near}
 use Rattle.model.specs.declared.Shape.the-variants.{Circular}
 use Rattle.model.specs.Series.{Factor, F, Series, Local, squareOf, seriesAlong, seriesAside, cosine, sine, cosineFactor, sineFactor, directionOf}
-use Rattle.elements.specs.Reached.{sided, measured, seriesAt}
-use Rattle.elements.specs.declared.series.Sides.{Sides}
+use Rattle.elements.specs.Reached.{withAside, measured, seriesAt}
+use Rattle.elements.specs.declared.series.Components.{Components}
 
 pos-sub : {m n : ℕ} → m ≤ n → pos (n - m) ≡ pos n -ℤ pos m
 pos-sub {m} {n} h = omega (order, difference (pos n) (pos m))
@@ -47,7 +47,7 @@ module _ (sign angle square : ℕ) (p : pos square ≡ squareOf (pos angle)) whe
       (eu ∙ ap (λ z. near (pos (100 * length) *ℤ z) ONE) (at-angle (k .alongFactor) ef))
       (ev ∙ ap (λ z. near (near (pos (100 * length) *ℤ withSign sign (pos angle)) ONE *ℤ z) (k .asideDivisor * ONE)) (at-angle (k .asideFactor) eg))
 
-  pub direction-at : (f : ℕ) (r : Sides) → pos f ≡ F sineFactor (pos square) → pos (r .along) ≡ F cosineFactor (pos square) → withSign sign (pos (r .aside)) ≡ near (withSign sign (pos (angle * f))) ONE → sided sign r ≡ directionOf Circular (withSign sign (pos angle))
+  pub direction-at : (f : ℕ) (r : Components) → pos f ≡ F sineFactor (pos square) → pos (r .along) ≡ F cosineFactor (pos square) → withSign sign (pos (r .aside)) ≡ near (withSign sign (pos (angle * f))) ONE → withAside sign r ≡ directionOf Circular (withSign sign (pos angle))
   unfolding directionOf cosine sine
   direction-at f r ef c s =
       ap₂ local

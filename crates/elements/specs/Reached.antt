@@ -14,7 +14,7 @@ use Rattle.model.specs.Rounding.{ONE}
 use Rattle.model.specs.Series as model
 use Rattle.model.specs.Series.{Local, Series, wholeLength, turnOf, angleOf, localOf, directionOf, facing, seriesAlong, seriesAside, turned, movedBy}
 use Rattle.elements.specs.declared.Placement.{Placement}
-use Rattle.elements.specs.declared.series.Sides.{Sides}
+use Rattle.elements.specs.declared.series.Components.{Components}
 use Rattle.elements.specs.declared.series.Factor.{Factor}
 use Rattle.elements.specs.declared.series.Numbers.{Numbers}
 use Rattle.elements.specs.declared.series.Magnitudes.{Magnitudes}
@@ -51,8 +51,8 @@ pub record Usable (k : Numbers) : Type 0 where
   pub divisor : (1 ≤ k .divisor) × (k .divisor ≤ 3)
 
 -- the components of a direction from their magnitudes and the sign of the angle
-abbrev pub sided : ℕ → Sides → Local
-sided sign r = record { along = pos (r .along); aside = withSign sign (pos (r .aside)) }
+abbrev pub withAside : ℕ → Components → Local
+withAside sign r = record { along = pos (r .along); aside = withSign sign (pos (r .aside)) }
 
 -- ---- the angle, u and v, but U and V of a clothoid
 
@@ -89,8 +89,8 @@ quotientOf Clothoid l half divisor = (ONE * (l * l) + half) / divisor
 pub data Reachable : Kind → ℕ → ℕ → ℕ → ℕ → ℕ → Type 0 where
   of : (p : Prepared) (s : ℕ) → Ready p → s ≤ p .element .length → Reachable (p .element .kind) (p .element .length) (p .off) (p .divisor) (p .half) s
 
-unfoldable pub elementIn : {kind : Kind} {length off divisor half s : ℕ} → Reachable kind length off divisor half s → Element
-elementIn (of p s y h) = p .element
+unfoldable pub elementReached : {kind : Kind} {length off divisor half s : ℕ} → Reachable kind length off divisor half s → Element
+elementReached (of p s y h) = p .element
 
 -- ---- in the plane
 

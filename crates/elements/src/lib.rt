@@ -21,7 +21,7 @@ ghost use Rattle.model.specs.Acceptance.{longestElement, widest};
 ghost use Rattle.model.specs.Accepted.{Accepted};
 ghost use Rattle.model.specs.Series.{fromAnchor, facing, lengthAt, positionOn, tangentOn};
 ghost use Rattle.elements.specs.Prepared.{divisorOf, preparedOf, Ready};
-ghost use Rattle.elements.specs.Reached.{Turnable, Near, measured, measuredAt, Reachable, elementIn, pointOf, headingOf, placementOf};
+ghost use Rattle.elements.specs.Reached.{Turnable, Near, measured, measuredAt, Reachable, elementReached, pointOf, headingOf, placementOf};
 
 mod series;
 
@@ -97,10 +97,10 @@ fn from_anchor(far: bool, length: u64, s: u64) -> u64
     if far { length - s } else { s }
 }
 
-// The angle, u and v (U and V on a spiral) at s mm from the element's start, by the numbers that they depend on. Each kind is a constant in its arm.
+// The angle, u and v (U and V on a spiral) at s mm from the element's start, by the numbers that they depend on. Shape and anchor are constants in each arm.
 fn reach(kind: Kind, length: u64, off: u64, divisor: u64, half: u64, s: u64) -> Magnitudes
     requires { ⌜ Reachable kind length off divisor half s ⌝ }
-    ensures { λ r. ⌜ ((x : Reachable kind length off divisor half s) → measured (signOf (elementIn x .radius)) r ≡ measuredAt (elementIn x) (lengthAt (elementIn x) s)) ⌝ }
+    ensures { λ r. ⌜ ((x : Reachable kind length off divisor half s) → measured (signOf (elementReached x .radius)) r ≡ measuredAt (elementReached x) (lengthAt (elementReached x) s)) ⌝ }
 {
     match kind {
         Kind::Line => Magnitudes {

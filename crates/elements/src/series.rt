@@ -11,7 +11,7 @@ ghost use Rattle.model.specs.Acceptance.{longestElement, widest};
 ghost use Rattle.model.specs.Rounding.{ONE, near};
 ghost use Rattle.model.specs.Series.{F, squareOf, directionOf};
 ghost use Rattle.rounding.specs.Rounded.{lowered};
-ghost use Rattle.elements.specs.Reached.{factorOf, seriesOf, Factorable, Curved, Usable, measured, measuredBy, seriesAt, sided};
+ghost use Rattle.elements.specs.Reached.{factorOf, seriesOf, Factorable, Curved, Usable, measured, measuredBy, seriesAt, withAside};
 
 // The numbers of F(a; b, d).
 pub struct Factor {
@@ -59,7 +59,7 @@ pub struct Magnitudes {
 }
 
 // The magnitudes of the components of a direction in the element's own frame.
-pub struct Sides {
+pub struct Components {
     pub along: u64,
     pub aside: u64,
 }
@@ -134,12 +134,12 @@ pub fn spiral(length: u64, angle: u64, off: u64) -> Magnitudes
 }
 
 // The direction on a curve, before it is negated where the anchor is the far end.
-pub fn direction(angle: u64, off: u64) -> Sides
+pub fn direction(angle: u64, off: u64) -> Components
     requires { ⌜ Curved 0 angle off ⌝ }
-    ensures { λ r. ⌜ ((sign : ℕ) → sign ≤ 1 → lowered sign ≡ off → sided sign r ≡ directionOf Circular (withSign sign (pos angle))) ⌝ }
+    ensures { λ r. ⌜ ((sign : ℕ) → sign ≤ 1 → lowered sign ≡ off → withAside sign r ≡ directionOf Circular (withSign sign (pos angle))) ⌝ }
 {
     let square = square_of(angle);
-    Sides {
+    Components {
         along: factor_of(square, COSINE),
         aside: near_even(angle * factor_of(square, SINE), ONE, off),
     }

@@ -84,7 +84,7 @@ unfoldable pub fromAnchor : Bool → ℕ → ℕ → ℕ
 fromAnchor false length s = s
 fromAnchor true length s = length - s
 
--- W, the length that a clothoid takes from its straight end to the radius R: the "L" of "2RL".
+-- W, the length over which a clothoid comes from its straight end to the radius R: the "L" of "2RL". On every other shape it is the element's own too.
 abbrev pub wholeLength : Element → ℕ
 wholeLength e = e .length
 

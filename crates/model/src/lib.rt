@@ -1,5 +1,5 @@
-// The types of the crest library, what a kind byte says, and document 01's numbers under their names: layout, limits, refusals,
-// units. Every definition of document 01 over them is in specs/.
+// The types of the crest library, what a kind byte says, the shape and the anchor of a kind, a refusal as an outcome, and document 01's
+// numbers under their names: layout, limits, refusals, units. Every definition of document 01 over them is in specs/.
 ghost use mathlib.Core.List.{[]};
 ghost use mathlib.Core.Path.{_≡_};
 ghost use Rattle.model.specs.Kinds.{decide, shapeOf, anchoredFar};

@@ -10,12 +10,12 @@ use denote.Ref.{now}
 use lib.Dec.{eqb}
 use lib.ListN.{length, take, drop}
 use Rattle.model.specs.Records.{byteAt, u32At}
-use Rattle.comparisons.specs.Agreement.{callOf, runIs, calledOn, callAgrees, runAfterCall}
+use Rattle.comparisons.specs.Agreement.{calledBy, runIs, calledOn, callAgrees, runAfterCall}
 use Rattle.comparisons.proofs.calls.agrees.Statement.{statement}
 use Rattle.comparisons.proofs.calls.agrees.Tie as tie
 
 -- of the call's value v and the lent bytes l that it leaves
-agreed : (row file run : List ℕ) {lent v n : ℕ} {l : List ℕ} {same : Bool} → lent ≡ byteAt row 1 → lent ≤ length run → (v, l) ≡ callOf row file (take (lent - 0) run) → n ≡ u32At row 4
+agreed : (row file run : List ℕ) {lent v n : ℕ} {l : List ℕ} {same : Bool} → lent ≡ byteAt row 1 → lent ≤ length run → (v, l) ≡ calledBy row file (take (lent - 0) run) → n ≡ u32At row 4
     → same ≡ runIs row (l ++ drop (lent - 0) run) → (eqb v n && same ≡ callAgrees row file run) × (l ++ drop (lent - 0) run ≡ runAfterCall row file run)
 unfolding calledOn callAgrees runAfterCall
 agreed row file run {lent} a h called b s = rw (s, b, sub-zero lent, ← a, le-leb _ _ h, ← rw (sub-zero lent) at called) (refl, refl)

@@ -8,8 +8,8 @@ use Rattle.model.specs.declared.Reading.the-variants.{PlanePoint, LinePlace}
 use Rattle.model.specs.Crest.{fileCrest}
 use Rattle.model.specs.Readings.{answerTo}
 use Rattle.model.specs.Calls.{readingCall}
-use Rattle.comparisons.specs.Said.{u64At}
-use Rattle.comparisons.specs.Agreement.{callOf}
+use Rattle.model.specs.Program.{u64At}
+use Rattle.comparisons.specs.Agreement.{calledBy}
 use Rattle.comparisons.proofs.calls.value.Statement.{statement}
 use Rattle.comparisons.proofs.calls.value.Tie as tie
 
@@ -31,7 +31,7 @@ module _ (c : tie.After-match2) where
   two-is = two .float2 .ensures ∙ ap (ofBits binary64) (two .before .u64-at2 .ensures)
 
 returns : tie.Need-returns
-unfolding callOf
+unfolding calledBy
 returns c =
     let k = c .before .before in
     let m = k .before .before in
@@ -41,7 +41,7 @@ returns c =
     ∙ ap₂ (λ (x y : Float). readingCall (answerTo (fileCrest (now (s .args .crest))) (PlanePoint x y)) (now (s .args .run))) (one-is (m .before)) (two-is (m .before)))
 
 returns-2 : tie.Need-returns-2
-unfolding callOf
+unfolding calledBy
 returns-2 c =
     let k = c .before .before in
     let m = k .before .before in
@@ -51,13 +51,13 @@ returns-2 c =
     ∙ ap₂ (λ (x y : Float). readingCall (answerTo (fileCrest (now (s .args .crest))) (LinePlace x y)) (now (s .args .run))) (one-is (m .before)) (two-is (m .before)))
 
 returns-3 : tie.Need-returns-3
-unfolding callOf
+unfolding calledBy
 returns-3 c =
     let k = c .before .before in
     rw (k .before .before .match .keys3) (k .crest-acknowledge .ensures)
 
 returns-4 : tie.Need-returns-4
-unfolding callOf
+unfolding calledBy
 returns-4 c =
     let r = c .match .rest in
     rw (ne-eqb _ 0 (r .0 .0 .1), ne-eqb _ 1 (r .0 .1), ne-eqb _ 2 (r .1))

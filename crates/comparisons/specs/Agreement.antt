@@ -1,5 +1,5 @@
 -- When a row of each sort agrees with the definitions, by the bytes after its head; reference/rows.py has their layout.
-use Prim.Native.Nat.{ℕ, _+_, _^_}
+use Prim.Native.Nat.{ℕ, _^_}
 use mathlib.Core.Bool.{Bool, true, false, not, cond, _&&_}
 use mathlib.Core.List.{List, _++_}
 use lib.Dec.{eqb, leb}

@@ -1,5 +1,5 @@
 -- The fields of a row, by the bytes after its head; reference/rows.py has their layout.
-use Prim.Native.Nat.{ℕ, _+_, _*_}
+use Prim.Native.Nat.{ℕ}
 use mathlib.Core.Bool.{Bool, not, _&&_}
 use mathlib.Core.List.{List}
 use lib.Dec.{eqb}

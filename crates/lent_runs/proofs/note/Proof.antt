@@ -83,9 +83,6 @@ module _ {M : Type 1} (𝓤 : URA M) (H : Heap 𝓤) (A : Atoms 𝓤) (W : Given
   abbrev asks : Val
   asks = EL.val R.the-type R′.the-laws g
 
-  abbrev says-back : ReadingAnswer → Val
-  says-back a = EL.val S.the-type S′.the-laws a
-
   abbrev x : RefT (List ℕ) × (Reading × (Run × Unit {0}))
   x = (s, (g, (h, tt)))
 

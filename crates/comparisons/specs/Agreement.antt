@@ -1,9 +1,9 @@
 -- When a row of each sort agrees with the definitions, by the bytes after its head; reference/rows.py has their layout.
-use Prim.Native.Nat.{ℕ, _^_}
+use Prim.Native.Nat.{ℕ}
 use mathlib.Core.Bool.{Bool, true, false, not, cond, _&&_}
 use mathlib.Core.List.{List, _++_}
 use lib.Dec.{eqb, leb}
-use lib.IntN.{ℤ, pos, negℤ}
+use lib.IntN.{ℤ, pos}
 use lib.Ieee.{binary64, ofBits}
 use lib.ListN.{length, take, drop}
 use Rattle.model.specs.declared.Element.{Element}
@@ -24,7 +24,7 @@ use Rattle.model.specs.Calls.{readingCall, acknowledgeCall}
 use Rattle.model.specs.Program.{u64At}
 use Rattle.whole_numbers.specs.declared.WholeNumber.{WholeNumber}
 use Rattle.whole_numbers.specs.declared.WholeNumber.the-variants.{Is, Beyond, Not}
-use Rattle.whole_numbers.specs.WholeNumbers.{shortOf}
+use Rattle.whole_numbers.specs.WholeNumbers.{beyond, negatedIf, shortOf}
 use Rattle.comparisons.specs.declared.notes.Told.{Told}
 use Rattle.comparisons.specs.Said.{i64At, isAt}
 use Rattle.comparisons.specs.Notes.{planeOf, lineOf, byCall, noteAgrees, lentAgrees, displayAgrees}
@@ -80,10 +80,10 @@ pointAgrees row file = locatedIs row (located (fileCrest file) (record { x = i64
 
 -- ---- NUMBER
 
--- a whole number in the row's one: 2^62 with its sign for one beyond, 2^63 - 1 for none
+-- a whole number in the row's one: the least magnitude beyond every range with its sign for one beyond, 2^63 - 1 for none
 unfoldable pub numberCode : WholeNumber → ℤ
 numberCode (Is z) = z
-numberCode (Beyond negative) = cond negative (negℤ (pos (2 ^ 62))) (pos (2 ^ 62))
+numberCode (Beyond negative) = negatedIf negative beyond
 numberCode Not = pos 9223372036854775807
 
 unfoldable pub numberAgrees : List ℕ → Bool

@@ -1,5 +1,5 @@
 -- The sums that the measurements add up, so that two programs can be compared by them.
-use Prim.Native.Nat.{ℕ, zero, suc, _+_}
+use Prim.Native.Nat.{ℕ, zero, suc, _+_, _^_}
 use mathlib.Core.Bool.{cond}
 use mathlib.Core.List.{List, _∷_}
 use lib.Dec.{ltb, eqb}
@@ -14,6 +14,10 @@ use Rattle.model.specs.Records.{recordSize}
 use Rattle.model.specs.Refusals.{rule₀, verdict, wrongRoom}
 use Rattle.model.specs.Acceptance.{elementOf, recordRules}
 use Rattle.model.specs.Series.{positionOn}
+
+-- below this a position can be added to a sum in 64 bits
+abbrev pub addable : ℕ
+addable = 2 ^ 62
 
 -- X + 2Y
 unfoldable pub mixed : Point → ℤ

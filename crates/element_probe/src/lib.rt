@@ -7,7 +7,7 @@ ghost use Prim.Native.Nat.{_*_, _^_, _<_, _≤_};
 ghost use lib.IntN.{natAbs, _+ℤ_};
 ghost use Rattle.model.specs.Series.{positionOn};
 ghost use Rattle.elements.specs.Prepared.{Ready};
-ghost use Rattle.element_probe.specs.Sums.{mixed, nextOn, sumFrom, sumOver, rootsFrom};
+ghost use Rattle.element_probe.specs.Sums.{addable, mixed, nextOn, sumFrom, sumOver, rootsFrom};
 
 // The next station, from the element's end again to its start.
 fn next_on(length: u64, s: u64) -> u64
@@ -20,7 +20,7 @@ fn next_on(length: u64, s: u64) -> u64
 fn add_position(p: Prepared, s: u64, sum: i64) -> i64
     requires { ⌜ Ready p ⌝ }
     requires { ⌜ s ≤ p .element .length ⌝ }
-    requires { ⌜ natAbs sum < 2 ^ 62 ⌝ }
+    requires { ⌜ natAbs sum < addable ⌝ }
     ensures { λ r. ⌜ r ≡ sum +ℤ mixed (positionOn (p .element) s) ⌝ }
 {
     let at = elements::position(p, s);

@@ -38,10 +38,18 @@ pub record Factorable (square : ℕ) (f : Factor) : Type 0 where
   pub inner : (1 < f .d) × (f .d ≤ 220)
   pub even : f .d % 2 ≡ 0
 
+-- the largest magnitude of t: no element turns by more than a half
+abbrev pub widestAngle : ℕ
+widestAngle = 2 ^ 29
+
+-- above every divisor of t, the largest of which is 2 · 10,000,000 · 500,000
+abbrev pub widestDivisor : ℕ
+widestDivisor = 2 ^ 44
+
 -- what the series ask of a length in mm, of an angle and of what is taken off for a half
 pub record Curved (length angle off : ℕ) : Type 0 where
   pub longest : length ≤ longestElement
-  pub widest : angle ≤ 2 ^ 29
+  pub widest : angle ≤ widestAngle
   pub small : off ≤ 1
 
 -- numbers that serve for every square that an angle has, up to 2^28, and for v

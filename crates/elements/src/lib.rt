@@ -21,7 +21,7 @@ ghost use Rattle.model.specs.Acceptance.{longestElement, widest};
 ghost use Rattle.model.specs.Accepted.{Accepted};
 ghost use Rattle.model.specs.Series.{fromAnchor, facing, lengthAt, positionOn, tangentOn};
 ghost use Rattle.elements.specs.Prepared.{divisorOf, preparedOf, Ready};
-ghost use Rattle.elements.specs.Reached.{Turnable, Near, measured, measuredAt, Reachable, elementReached, pointOf, headingOf, placementOf};
+ghost use Rattle.elements.specs.Reached.{widestAngle, Turnable, Near, measured, measuredAt, Reachable, elementReached, pointOf, headingOf, placementOf};
 
 mod series;
 
@@ -147,7 +147,7 @@ fn point_at(p: Prepared, r: Magnitudes) -> Point
 // The direction from the magnitude of the angle. Where the anchor is the far end it turns the other way than v lies, so the axis of v is negated.
 fn heading_at(p: Prepared, angle: u64) -> Point
     requires { ⌜ Ready p ⌝ }
-    requires { ⌜ angle ≤ 2 ^ 29 ⌝ }
+    requires { ⌜ angle ≤ widestAngle ⌝ }
     ensures { λ q. ⌜ q ≡ headingOf (p .element) angle ⌝ }
 {
     let e = p.element;

@@ -11,7 +11,7 @@ ghost use Rattle.model.specs.Acceptance.{longestElement, widest};
 ghost use Rattle.model.specs.Rounding.{ONE, near};
 ghost use Rattle.model.specs.Series.{F, squareOf, directionOf};
 ghost use Rattle.rounding.specs.Rounded.{lowered};
-ghost use Rattle.elements.specs.Reached.{factorOf, seriesOf, Factorable, Curved, Usable, measured, measuredBy, seriesAt, withAside};
+ghost use Rattle.elements.specs.Reached.{factorOf, seriesOf, widestAngle, widestDivisor, Factorable, Curved, Usable, measured, measuredBy, seriesAt, withAside};
 
 // The numbers of F(a; b, d).
 pub struct Factor {
@@ -66,7 +66,7 @@ pub struct Components {
 
 // p, the square of the angle.
 pub fn square_of(angle: u64) -> u64
-    requires { ⌜ angle ≤ 2 ^ 29 ⌝ }
+    requires { ⌜ angle ≤ widestAngle ⌝ }
     ensures { λ r. ⌜ pos r ≡ squareOf (pos angle) ⌝ }
     ensures small { λ r. ⌜ r ≤ 2 ^ 28 ⌝ }
 {
@@ -153,13 +153,16 @@ pub fn arc_angle(s: u64, half: u64, divisor: u64) -> u64
     (2 * (ONE * s) + half) / divisor
 }
 
-// The magnitude of t on a spiral: ONE·l² has up to 68 bits, so a long division with two digits of base 2^15.
+// The base of a digit of the quotient: ONE is its square.
+const DIGIT: u64 = 1 << 15;
+
+// The magnitude of t on a spiral: ONE·l² has up to 68 bits, so a long division with two digits.
 pub fn spiral_angle(l: u64, half: u64, divisor: u64) -> u64
-    requires { ⌜ (l ≤ longestElement) × (half < 2 ^ 44) × (1 ≤ divisor) × (divisor < 2 ^ 44) × (l * l ≤ divisor) ⌝ }
+    requires { ⌜ (l ≤ longestElement) × (half < widestDivisor) × (1 ≤ divisor) × (divisor < widestDivisor) × (l * l ≤ divisor) ⌝ }
     ensures { λ r. ⌜ r ≡ (ONE * (l * l) + half) / divisor ⌝ }
 {
-    let whole = l * l * 32768;
+    let whole = l * l * DIGIT;
     let high = whole / divisor;
-    let rest = (whole % divisor) * 32768;
-    high * 32768 + (rest + half) / divisor
+    let rest = (whole % divisor) * DIGIT;
+    high * DIGIT + (rest + half) / divisor
 }

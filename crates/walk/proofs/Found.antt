@@ -18,10 +18,11 @@ use Rattle.model.specs.Stations.{total, D}
 use Rattle.model.specs.Walk.{multiplesFrom, firstVisits, firstBest, ownStations, secondFrom, secondVisits, visits, visitCount, isIn}
 use Rattle.model.proofs.Accepted.{numbers}
 use Rattle.elements.proofs.Extent.{extent}
+use Rattle.elements.specs.Extent.{unreached}
 use Rattle.walk.specs.declared.Pass.the-variants.{First, Second}
 use Rattle.walk.specs.declared.Seen.{Seen}
 use Rattle.plane.specs.Frame.{InFrame}
-use Rattle.walk.specs.Search.{unreached, nearer, seenAt, seenOver, passOver, walkedOf}
+use Rattle.walk.specs.Search.{nearer, seenAt, seenOver, passOver, walkedOf}
 use Rattle.walk_laws.proofs.Own.{own-between, D-own}
 use Rattle.walk_laws.proofs.Visits.{Place, here, later, place, not-in-none}
 use Rattle.walk_laws.proofs.Walked.{LeastIn, walk-best, walk-station}

@@ -13,6 +13,7 @@ use Rattle.model.specs.Stations.{distanceSq, D}
 use Rattle.model.specs.Judged.{judged}
 use Rattle.model.specs.Walk.{multiplesFrom, skipped, elementVisits, ownStations, visitCount, firstStep, rootSlack}
 use Rattle.plane.specs.Frame.{InFrame}
+use Rattle.elements.specs.Extent.{unreached}
 use Rattle.walk.specs.declared.Pass.{Pass}
 use Rattle.walk.specs.declared.Pass.the-variants.{First, Second}
 use Rattle.walk.specs.declared.Seen.{Seen}
@@ -20,9 +21,9 @@ use Rattle.walk.specs.declared.visit.Stride.{Stride}
 use Rattle.elements.specs.declared.Prepared.{Prepared}
 use Rattle.elements.specs.Prepared.{Ready}
 
--- the best before any visit: it lies above every squared distance of a point in the frame
-abbrev pub unreached : ℕ
-unreached = 2 ^ 62
+-- visits that can be counted on in 64 bits
+abbrev pub countable : ℕ
+countable = 2 ^ 62
 
 -- ---- one visit
 

@@ -17,7 +17,8 @@ ghost use Rattle.model.specs.Stations.{D};
 ghost use Rattle.model.specs.Walk.{elementVisits};
 ghost use Rattle.plane.specs.Frame.{InFrame};
 ghost use Rattle.sources.specs.Sources.{elementsLent, SourceAccepted};
-ghost use Rattle.walk.specs.Search.{unreached, seenOver, onElement, firstOn, endVisit, passOn, passOver, Passable};
+ghost use Rattle.elements.specs.Extent.{unreached};
+ghost use Rattle.walk.specs.Search.{seenOver, onElement, firstOn, endVisit, passOn, passOver, Passable};
 
 // Added before a division by the step, it rounds up.
 const ROUND_UP: u64 = limits::FIRST_STEP - 1;

@@ -12,9 +12,9 @@ ghost use Rattle.model.specs.Series.{positionOn};
 ghost use Rattle.model.specs.Stations.{distanceSq};
 ghost use Rattle.model.specs.Walk.{rootSlack, stepDivisor};
 ghost use Rattle.plane.specs.Frame.{InFrame};
-ghost use Rattle.elements.specs.Extent.{widestPosition};
+ghost use Rattle.elements.specs.Extent.{widestPosition, unreached};
 ghost use Rattle.elements.specs.Prepared.{Ready};
-ghost use Rattle.walk.specs.Search.{unreached, seenAt, Known, Strided};
+ghost use Rattle.walk.specs.Search.{countable, seenAt, Known, Strided};
 
 // The step to the next station: how many stations it leaves out, and for the steps after it the whole root b of the best and
 // the square of b + 31, below which none is left out. Where the limit is 0, the root is not taken yet.
@@ -47,7 +47,7 @@ pub fn distance(p: Prepared, s: u64, q: Point) -> u64
 
 // Station `s` at the squared distance `d` is visited.
 pub fn seen(d: u64, s: u64, w: Seen) -> Seen
-    requires { ⌜ w .visits < 2 ^ 62 ⌝ }
+    requires { ⌜ w .visits < countable ⌝ }
     ensures { λ r. ⌜ r ≡ seenAt d s w ⌝ }
 {
     let visits = w.visits + 1;

@@ -6,9 +6,9 @@ use Rattle.model.specs.declared.Element.{Element}
 use Rattle.model.specs.Stations.{D}
 use Rattle.sources.specs.Sources.{elementsLent}
 use Rattle.stations.proofs.StationTotal.{total-within}
+use Rattle.elements.specs.Extent.{unreached}
 use Rattle.walk.specs.declared.Pass.the-variants.{First}
 use Rattle.walk.specs.declared.Seen.{Seen}
-use Rattle.walk.specs.Search.{unreached}
 use Rattle.walk.proofs.Passing.{over-best, over-visits}
 use Rattle.walk.proofs.Found.{start, found}
 use Rattle.walk.proofs.walk.Statement.{statement}

@@ -6,7 +6,8 @@ use native.Mathlib.Nat.{mul-le-mul}
 use borrow.Author.Needs.{needs}
 use Rattle.integers.specs.Root.{root}
 use Rattle.integers.proofs.Root.{square→root-<}
-use Rattle.walk.specs.Search.{unreached, Known}
+use Rattle.elements.specs.Extent.{unreached}
+use Rattle.walk.specs.Search.{Known}
 use Rattle.walk.proofs.visit.rooted.Statement.{statement}
 use Rattle.walk.proofs.visit.rooted.Tie as tie
 

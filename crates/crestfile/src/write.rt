@@ -27,13 +27,13 @@ pub fn count_fits(len: usize) -> bool
 }
 
 // Added before a division by the records of a block, it rounds up.
-const ROUND_UP: usize = PER_BLOCK - 1;
+const BLOCK_ROUND_UP: usize = PER_BLOCK - 1;
 
 // The blocks needed for so many record bytes: as many as hold the records, 15 in each.
 pub fn blocks_needed(len: usize) -> usize
     ensures { λ r. ⌜ r ≡ (len / recordSize + (perBlock - 1)) / perBlock ⌝ }
 {
-    (len / RECORD_SIZE + ROUND_UP) / PER_BLOCK
+    (len / RECORD_SIZE + BLOCK_ROUND_UP) / PER_BLOCK
 }
 
 // Where a block's records end that start at `from`, of `len` bytes.

@@ -54,8 +54,8 @@ module _ {x a : ℤ} {u : ℕ} {b : ℤ} {v : ℕ} (t : Turnable x a u b v) wher
           aside = t .aside;
         }
 
-    pub turned-held : {r : ℤ} → SFits w64 r → r ≡ held x +ℤ near (held a *ℤ pos u +ℤ held z *ℤ pos v) ONE → held r ≡ x +ℤ near (a *ℤ pos u +ℤ b *ℤ pos v) ONE
-    turned-held f e =
+    pub coordinate-held : {r : ℤ} → SFits w64 r → r ≡ held x +ℤ near (held a *ℤ pos u +ℤ held z *ℤ pos v) ONE → held r ≡ x +ℤ near (a *ℤ pos u +ℤ b *ℤ pos v) ONE
+    coordinate-held f e =
         toZ-ofZ f ∙ e ∙ ap₂ (λ (y z : ℤ). y +ℤ near z ONE) held-x (ap₂ (λ (y z : ℤ). y *ℤ pos u +ℤ z *ℤ pos v) held-a held-b)
 
 -- ---- the axes

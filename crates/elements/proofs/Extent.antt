@@ -22,7 +22,7 @@ use Rattle.model.specs.Stations.{distanceSq}
 use Rattle.model.specs.Accepted.{Accepted}
 use Rattle.model.proofs.Accepted.{numbers}
 use Rattle.rounding.proofs.Sizes.{near-within, near-turn}
-use Rattle.elements.specs.Extent.{widestPosition, Extent}
+use Rattle.elements.specs.Extent.{widestAlong, widestAside, widestPosition, Extent}
 use Rattle.elements.proofs.Angle.{squareOf-square, lengthAt-within, angleAt-within}
 use Rattle.elements.proofs.Factor.{Proper, F-within}
 
@@ -135,9 +135,9 @@ extent {e} a {s} h =
     let g = directionAt e s in
     let far = anchoredFar (e .kind) in
     let shape = shapeOf (e .kind) in
-    let u₀ : natAbs (unsignedAt e s .along) ≤ 50000000 = le-trans (local-along-within (angleAt e s) t shape (lengthAt e s)) (omega arith) in
+    let u₀ : natAbs (unsignedAt e s .along) ≤ widestAlong = le-trans (local-along-within (angleAt e s) t shape (lengthAt e s)) (omega arith) in
     let u = facing-within far (unsignedAt e s .along) u₀ in
-    let v : natAbs (w .aside) ≤ 12500000 = le-trans (local-aside-within (angleAt e s) t shape (lengthAt e s)) (omega arith) in
+    let v : natAbs (w .aside) ≤ widestAside = le-trans (local-aside-within (angleAt e s) t shape (lengthAt e s)) (omega arith) in
     let m = direction-along-within (angleAt e s) t shape in
     let n = facing-within far (directionOf shape (angleAt e s) .aside) (direction-aside-within (angleAt e s) t shape) in
     let moved : (x y : ℤ) → natAbs x ≤ frame → natAbs y ≤ 62500000 → natAbs (x +ℤ y) ≤ widestPosition = λ x y hx hy. omega (arith, natAbs-+ x y) in

@@ -16,7 +16,7 @@ use Rattle.model.specs.Series.{Local, Series, wholeLength, turnOf, angleOf, loc
 use Rattle.elements.specs.declared.Placement.{Placement}
 use Rattle.elements.specs.declared.series.Components.{Components}
 use Rattle.elements.specs.declared.series.Factor.{Factor}
-use Rattle.elements.specs.declared.series.Numbers.{Numbers}
+use Rattle.elements.specs.declared.series.CurveNumbers.{CurveNumbers}
 use Rattle.elements.specs.declared.series.Magnitudes.{Magnitudes}
 use Rattle.elements.specs.declared.Prepared.{Prepared}
 use Rattle.elements.specs.Prepared.{Ready}
@@ -27,7 +27,7 @@ use Rattle.elements.specs.Prepared.{Ready}
 abbrev pub factorOf : Factor → model.Factor
 factorOf f = model.factor (f .a) (f .b) (f .d)
 
-abbrev pub seriesOf : Numbers → Series
+abbrev pub seriesOf : CurveNumbers → Series
 seriesOf k = record { alongFactor = factorOf (k .along); asideFactor = factorOf (k .aside); asideDivisor = k .divisor }
 
 -- what F(a; b, d) asks of the square and of its numbers
@@ -53,7 +53,7 @@ pub record Curved (length angle off : ℕ) : Type 0 where
   pub small : off ≤ 1
 
 -- numbers that serve for every square that an angle has, up to 2^28, and for v
-pub record Usable (k : Numbers) : Type 0 where
+pub record Usable (k : CurveNumbers) : Type 0 where
   pub along : Factorable (2 ^ 28) (k .along)
   pub aside : Factorable (2 ^ 28) (k .aside)
   pub divisor : (1 ≤ k .divisor) × (k .divisor ≤ 3)

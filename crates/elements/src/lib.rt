@@ -124,7 +124,7 @@ fn reach(kind: Kind, length: u64, off: u64, divisor: u64, half: u64, s: u64) -> 
 }
 
 // A coordinate: from `x`, u along an axis with the component a, and v along one with the component b.
-fn turned(x: i64, a: i64, u: u64, b: i64, v: u64) -> i64
+fn coordinate(x: i64, a: i64, u: u64, b: i64, v: u64) -> i64
     requires { ⌜ Turnable x a u b v ⌝ }
     ensures { λ r. ⌜ r ≡ x +ℤ near (a *ℤ pos u +ℤ b *ℤ pos v) ONE ⌝ }
 {
@@ -139,8 +139,8 @@ fn point_at(p: Prepared, r: Magnitudes) -> Point
 {
     let e = p.element;
     Point {
-        x: turned(e.x, p.ux, r.along, p.vx, r.aside),
-        y: turned(e.y, p.uy, r.along, p.vy, r.aside),
+        x: coordinate(e.x, p.ux, r.along, p.vx, r.aside),
+        y: coordinate(e.y, p.uy, r.along, p.vy, r.aside),
     }
 }
 
@@ -155,8 +155,8 @@ fn heading_at(p: Prepared, angle: u64) -> Point
     let d = series::direction(angle, p.off);
     let far = anchored_far(kind);
     Point {
-        x: turned(0, e.c, d.along, faced(far, p.vx), d.aside),
-        y: turned(0, e.s, d.along, faced(far, p.vy), d.aside),
+        x: coordinate(0, e.c, d.along, faced(far, p.vx), d.aside),
+        y: coordinate(0, e.s, d.along, faced(far, p.vy), d.aside),
     }
 }
 

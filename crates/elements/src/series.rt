@@ -21,19 +21,19 @@ pub struct Factor {
 }
 
 // The factors of u and of v, and the divisor of v.
-pub struct Numbers {
+pub struct CurveNumbers {
     pub along: Factor,
     pub aside: Factor,
     pub divisor: u64,
 }
 
-const ARC: Numbers = Numbers {
+const ARC: CurveNumbers = CurveNumbers {
     along: Factor { a: 6, b: 1, d: 20 },
     aside: Factor { a: 12, b: 1, d: 30 },
     divisor: 2,
 };
 
-const SPIRAL: Numbers = Numbers {
+const SPIRAL: CurveNumbers = CurveNumbers {
     along: Factor {
         a: 10,
         b: 5,
@@ -102,7 +102,7 @@ pub fn aside(length: u64, angle: u64, off: u64, f: u64, divisor: u64) -> u64
 }
 
 // u and v of a curve by the numbers of its series.
-fn curve(k: Numbers, length: u64, angle: u64, off: u64) -> Magnitudes
+fn curve(k: CurveNumbers, length: u64, angle: u64, off: u64) -> Magnitudes
     requires { ⌜ Usable k ⌝ }
     requires { ⌜ Curved length angle off ⌝ }
     ensures { λ r. ⌜ ((sign : ℕ) → sign ≤ 1 → lowered sign ≡ off → measured sign r ≡ seriesAt (seriesOf k) length (withSign sign (pos angle))) ⌝ }

@@ -136,7 +136,7 @@ fn on_line(crest: &[u8], amendment: &[u8], form: Form, s: i64, w: i64) -> bool
 }
 
 // An offset along a component of the direction.
-fn aside(w: i64, t: i64) -> i64
+fn offset_along(w: i64, t: i64) -> i64
     requires { ⌜ (natAbs w ≤ widestOffset) × (natAbs t < 2 ^ 31) ⌝ }
     ensures { λ r. ⌜ r ≡ near (w *ℤ t) ONE ⌝ }
 {
@@ -151,8 +151,8 @@ fn inverse_at(crest: &[u8], amendment: &[u8], form: Form, s: u64, w: i64) -> Poi
     ensures { λ r. ⌜ r ≡ inverseAt (elementsLent form (crest .entry) (amendment .entry)) s w ⌝ }
 {
     let p = placed_at(crest, amendment, form, s);
-    let back = aside(w, p.ty);
-    let on = aside(w, p.tx);
+    let back = offset_along(w, p.ty);
+    let on = offset_along(w, p.tx);
     Point {
         x: p.x - back,
         y: p.y + on,

@@ -21,9 +21,19 @@ use Rattle.walk.specs.declared.visit.Stride.{Stride}
 use Rattle.elements.specs.declared.Prepared.{Prepared}
 use Rattle.elements.specs.Prepared.{Ready}
 
--- visits that can be counted on in 64 bits
+-- visits that can be counted on in 64 bits, and how many there may be before an element and before a pass, so that its own can be
 abbrev pub countable : ℕ
 countable = 2 ^ 62
+
+abbrev pub countableBeforeElement : ℕ
+countableBeforeElement = 2 ^ 60
+
+abbrev pub countableBeforePass : ℕ
+countableBeforePass = 2 ^ 40
+
+-- no less than the square of a point's distance from a position in one coordinate
+abbrev pub widestSquare : ℕ
+widestSquare = 2 ^ 60
 
 -- ---- one visit
 

@@ -11,17 +11,17 @@ use sources::count_in;
 use sources::element_in;
 ghost use mathlib.Core.Bool.{cond};
 ghost use mathlib.Core.Path.{_≡_};
-ghost use Prim.Native.Nat.{_+_, _^_, _≤_};
+ghost use Prim.Native.Nat.{_+_, _≤_};
 ghost use Rattle.model.specs.Acceptance.{longestElement};
 ghost use Rattle.model.specs.Stations.{D};
 ghost use Rattle.model.specs.Walk.{elementVisits};
 ghost use Rattle.plane.specs.Frame.{InFrame};
 ghost use Rattle.sources.specs.Sources.{elementsLent, SourceAccepted};
 ghost use Rattle.elements.specs.Extent.{unreached};
-ghost use Rattle.walk.specs.Search.{seenOver, onElement, firstOn, endVisit, passOn, passOver, Passable};
+ghost use Rattle.walk.specs.Search.{countableBeforeElement, countableBeforePass, seenOver, onElement, firstOn, endVisit, passOn, passOver, Passable};
 
 // Added before a division by the step, it rounds up.
-const ROUND_UP: u64 = limits::FIRST_STEP - 1;
+const STEP_ROUND_UP: u64 = limits::FIRST_STEP - 1;
 
 // The first pass over an element's own stations: those that are multiples of 1000.
 fn multiples_on(p: Prepared, own: u64, start: u64, q: Point, w: Seen) -> Seen
@@ -29,7 +29,7 @@ fn multiples_on(p: Prepared, own: u64, start: u64, q: Point, w: Seen) -> Seen
     ensures { λ r. ⌜ r ≡ seenOver (onElement (p .element) start q) (firstOn own start) w ⌝ }
 {
     let end = start + own;
-    let mut s = (start + ROUND_UP) / limits::FIRST_STEP * limits::FIRST_STEP;
+    let mut s = (start + STEP_ROUND_UP) / limits::FIRST_STEP * limits::FIRST_STEP;
     let mut v = w;
     while s < end {
         v = visit::seen(visit::distance(p, s - start, q), s, v);
@@ -80,7 +80,7 @@ fn second_on(p: Prepared, own: u64, start: u64, q: Point, w: Seen) -> Seen
 // A pass over an element's own stations.
 fn pass_on(pass: Pass, p: Prepared, own: u64, start: u64, q: Point, w: Seen) -> Seen
     requires { ⌜ Passable p own start q w ⌝ }
-    requires { ⌜ w .visits ≤ 2 ^ 60 ⌝ }
+    requires { ⌜ w .visits ≤ countableBeforeElement ⌝ }
     ensures { λ r. ⌜ r ≡ passOn pass (onElement (p .element) start q) (p .element .length) own start w ⌝ }
 {
     match pass {
@@ -104,7 +104,7 @@ fn own_of(n: u64, last: bool) -> u64
 pub fn pass_over(pass: Pass, crest: &[u8], amendment: &[u8], form: Form, q: Point, w: Seen) -> Seen
     requires { ⌜ SourceAccepted form (now crest) (now amendment) ⌝ }
     requires { ⌜ InFrame q ⌝ }
-    requires { ⌜ (w .best ≤ unreached) × (w .visits ≤ 2 ^ 40) ⌝ }
+    requires { ⌜ (w .best ≤ unreached) × (w .visits ≤ countableBeforePass) ⌝ }
     ensures { λ r. ⌜ r ≡ passOver pass (D (elementsLent form (crest .entry) (amendment .entry)) q) (elementsLent form (crest .entry) (amendment .entry)) 0 w ⌝ }
 {
     let count = count_in(crest, amendment, form);

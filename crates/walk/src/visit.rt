@@ -14,7 +14,7 @@ ghost use Rattle.model.specs.Walk.{rootSlack, stepDivisor};
 ghost use Rattle.plane.specs.Frame.{InFrame};
 ghost use Rattle.elements.specs.Extent.{widestPosition, unreached};
 ghost use Rattle.elements.specs.Prepared.{Ready};
-ghost use Rattle.walk.specs.Search.{countable, seenAt, Known, Strided};
+ghost use Rattle.walk.specs.Search.{countable, widestSquare, seenAt, Known, Strided};
 
 // The step to the next station: how many stations it leaves out, and for the steps after it the whole root b of the best and
 // the square of b + 31, below which none is left out. Where the limit is 0, the root is not taken yet.
@@ -28,7 +28,7 @@ pub struct Stride {
 fn squared_gap(a: i64, b: i64) -> u64
     requires { ⌜ (natAbs a ≤ frame) × (natAbs b ≤ widestPosition) ⌝ }
     ensures { λ r. ⌜ r ≡ natAbs (a -ℤ b) * natAbs (a -ℤ b) ⌝ }
-    ensures small { λ r. ⌜ r ≤ 2 ^ 60 ⌝ }
+    ensures small { λ r. ⌜ r ≤ widestSquare ⌝ }
 {
     let d = a - b;
     (d * d) as u64

@@ -69,28 +69,28 @@ module _ (c : tie.After-placed-at) where
   is-ty : c .placed-at .result .ty ≡ t start .y
   is-ty = is (λ (q : Placement). q .ty)
 
-aside-requires : tie.Need-aside-requires
-aside-requires c κs = let s = start (c .before) in asked s (is-ty (c .before)) (bounds s .ty)
+offset-along-requires : tie.Need-offset-along-requires
+offset-along-requires c κs = let s = start (c .before) in asked s (is-ty (c .before)) (bounds s .ty)
 
-module _ (c : tie.After-aside) where
+module _ (c : tie.After-offset-along) where
   abbrev o : tie.After-placed-at
   o = c .before .before
 
   -- X less the offset along Ty
-  less : let s = start o in Computed _-ℤ_ (p s .x) (near (s .args .w *ℤ t s .y) ONE) (o .placed-at .result .x) (c .aside .result)
-  less = let s = start o in beside s (is-ty o) (bounds s .ty) _-ℤ_ natAbs-- (is o (λ (q : Placement). q .x)) (bounds s .x) (c .aside .ensures)
+  less : let s = start o in Computed _-ℤ_ (p s .x) (near (s .args .w *ℤ t s .y) ONE) (o .placed-at .result .x) (c .offset-along .result)
+  less = let s = start o in beside s (is-ty o) (bounds s .ty) _-ℤ_ natAbs-- (is o (λ (q : Placement). q .x)) (bounds s .x) (c .offset-along .ensures)
 
-aside-requires-2 : tie.Need-aside-requires-2
-aside-requires-2 c κs =
+offset-along-requires-2 : tie.Need-offset-along-requires-2
+offset-along-requires-2 c κs =
     let x = o (c .before) in
     asked (start x) (is-tx x) (bounds (start x) .tx)
 
 -- Y with the offset along Tx
-more : (c : tie.After-aside2) → let x = o (c .before .before) in let s = start x in Computed _+ℤ_ (p s .y) (near (s .args .w *ℤ t s .x) ONE) (x .placed-at .result .y) (c .aside2 .result)
+more : (c : tie.After-offset-along2) → let x = o (c .before .before) in let s = start x in Computed _+ℤ_ (p s .y) (near (s .args .w *ℤ t s .x) ONE) (x .placed-at .result .y) (c .offset-along2 .result)
 more c =
     let x = o (c .before .before) in
     let s = start x in
-    beside s (is-tx x) (bounds s .tx) _+ℤ_ natAbs-+ (is x (λ (q : Placement). q .y)) (bounds s .y) (c .aside2 .ensures)
+    beside s (is-tx x) (bounds s .tx) _+ℤ_ natAbs-+ (is x (λ (q : Placement). q .y)) (bounds s .y) (c .offset-along2 .ensures)
 
 sub-t9 : tie.Need-sub-t9
 sub-t9 c = less (c .before .before .before .before) .fits
@@ -108,4 +108,4 @@ returns c =
 
 pub inverse-at-spec : {M : Type 1} → statement M
 inverse-at-spec =
-    tie.close (tie.spec placed-at-requires aside-requires aside-requires-2 sub-t9 add-t10 returns)
+    tie.close (tie.spec placed-at-requires offset-along-requires offset-along-requires-2 sub-t9 add-t10 returns)

@@ -1,7 +1,7 @@
 -- `walk::passes::pass_over` meets its contract. The invariant: what is left of the pass, from what is seen, is the whole, and the next element begins where those before it end.
 use mathlib.Core.List.{List}
 use mathlib.Core.Path.{_≡_, refl, sym, _∙_, ap}
-use Prim.Native.Nat.{suc, _+_, _-_, _^_, _≤_}
+use Prim.Native.Nat.{suc, _+_, _-_, _≤_}
 use native.Mathlib.Omega.{arith}
 use native.Mathlib.Numerals.{add-one}
 use lib.ListN.{length, take, drop, length-drop}
@@ -16,7 +16,7 @@ use Rattle.sources.specs.Sources.{elementsIn, elementsLent}
 use Rattle.sources.proofs.RecordsRead.{RecordsRead, elementIn, read-asks, read-at, read-length, read-count, read-accepted}
 use Rattle.stations.proofs.StationTotal.{read-ends}
 use Rattle.walk_laws.proofs.Own.{own-between}
-use Rattle.walk.specs.Search.{onElement, passOn}
+use Rattle.walk.specs.Search.{countableBeforeElement, onElement, passOn}
 use Rattle.walk.proofs.Passing.{PassLeft, own-is, left-start, left-step, left-done}
 use Rattle.walk.proofs.passes.pass_over.Statement.{statement}
 use Rattle.walk.proofs.passes.pass_over.Tie as tie
@@ -96,7 +96,7 @@ pass-on-requires c κs =
     let s = begun o in
     let end = ends o .1 in
     let left = l .inv .3 in
-    let few : l .v .visits ≤ 2 ^ 60 = omega (arith, left .visits, s .pre .1 .1 .1, l .inv .2, end, read-count (l .inv .0) .1, o .loop-test .taken) in (
+    let few : l .v .visits ≤ countableBeforeElement = omega (arith, left .visits, s .pre .1 .1 .1, l .inv .2, end, read-count (l .inv .0) .1, o .loop-test .taken) in (
       record {
         ready = p .prepare .ensures .1;
         frame = s .pre .1 .0;

@@ -1,7 +1,7 @@
 -- `walk::visit::squared_gap` meets its contract: the difference is below 2^29, so its square fits.
 use mathlib.Core.Path.{_≡_, sym, _∙_, ap, subst}
 use mathlib.Core.List.{[], _∷_}
-use Prim.Native.Nat.{_*_, _^_, _≤_}
+use Prim.Native.Nat.{_*_, _≤_}
 use native.Mathlib.Omega.{arith}
 use native.Mathlib.Nat.{mul-le-mul}
 use lib.Dec.{T}
@@ -14,6 +14,7 @@ use Rattle.integers.proofs.Machine.{Env, env, machine, fits-machine, by-machine
 use Rattle.integers.proofs.Held.{held}
 use Rattle.model.specs.Acceptance.{frame}
 use Rattle.elements.specs.Extent.{widestPosition}
+use Rattle.walk.specs.Search.{widestSquare}
 use Rattle.walk.proofs.visit.squared_gap.Statement.{statement}
 use Rattle.walk.proofs.visit.squared_gap.Tie as tie
 
@@ -30,7 +31,7 @@ module _ (c : tie.Start) where
   is-square : held (computed *ℤ computed) ≡ pos (natAbs gap * natAbs gap)
   is-square = by-machine Γ {b = gap *ℤ gap} (search machine depth 20) (search machine depth 20) tt ∙ square-natAbs gap
 
-  square-small : natAbs gap * natAbs gap ≤ 2 ^ 60
+  square-small : natAbs gap * natAbs gap ≤ widestSquare
   square-small =
       let g : natAbs gap ≤ 462500000 = omega (arith, natAbs-- (c .args .a) (c .args .b)) in
       omega (arith, mul-le-mul g g)

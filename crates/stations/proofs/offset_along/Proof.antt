@@ -1,4 +1,4 @@
--- `stations::aside` meets its contract: the product fits, and is rounded.
+-- `stations::offset_along` meets its contract: the product fits, and is rounded.
 use mathlib.Core.Path.{refl, ap, _∙_}
 use native.Mathlib.Omega.{arith}
 use Prim.Native.Nat.{_*_, _≤_}
@@ -8,8 +8,8 @@ use Rattle.model.specs.Rounding.{ONE, near}
 use Rattle.model.specs.Answers.{widestOffset}
 use Rattle.stations.proofs.StationExtent.{aside-within}
 use Rattle.stations.proofs.StationHeld.{Computed, computed}
-use Rattle.stations.proofs.aside.Statement.{statement}
-use Rattle.stations.proofs.aside.Tie as tie
+use Rattle.stations.proofs.offset_along.Statement.{statement}
+use Rattle.stations.proofs.offset_along.Tie as tie
 
 module _ (c : tie.Start) where
   small : natAbs (c .args .w *ℤ c .args .t) ≤ ONE * (2 * widestOffset)
@@ -27,5 +27,5 @@ near-one-requires c κs = omega (arith, ap natAbs (product c .is), small c)
 returns : tie.Need-returns
 returns c = toZ-ofZ (record { sfits = c .near-one .ok }) ∙ c .near-one .ensures ∙ ap (λ (z : ℤ). near z ONE) (product (c .before) .is)
 
-pub aside-spec : {M : Type 1} → statement M
-aside-spec = tie.close (tie.spec mul-near-one near-one-requires returns)
+pub offset-along-spec : {M : Type 1} → statement M
+offset-along-spec = tie.close (tie.spec mul-near-one near-one-requires returns)

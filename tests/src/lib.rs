@@ -28,8 +28,8 @@ pub mod raw {
             target_y: i32,
             heading_c: i32,
             heading_s: i32,
-            room: *mut u8,
-            room_len: usize,
+            r#move: *mut u8,
+            move_len: usize,
         ) -> u32;
         pub fn crest_acknowledge(run: *mut u8, run_len: usize) -> u32;
         pub fn probe_position(crest: *const u8, crest_len: usize, station: u32, out: *mut u8, out_len: usize) -> u32;

@@ -44,11 +44,11 @@ pub extern "C" fn crest_stake_out(
     target_y: i32,
     heading_c: i32,
     heading_s: i32,
-    room: &mut [u8],
+    move_bytes: &mut [u8],
 ) -> u32
-    ensures { λ r. ⌜ (r, now (room .exit)) ≡ stakeOutCall (record { x = «own_x»; y = «own_y» }) (record { x = «target_x»; y = «target_y» }) «heading_c» «heading_s» (now (room .entry)) ⌝ }
+    ensures { λ r. ⌜ (r, now («move_bytes» .exit)) ≡ stakeOutCall (record { x = «own_x»; y = «own_y» }) (record { x = «target_x»; y = «target_y» }) «heading_c» «heading_s» (now («move_bytes» .entry)) ⌝ }
 {
-    if room.len() != layout::MOVE_SIZE {
+    if move_bytes.len() != layout::MOVE_SIZE {
         return refusals::WRONG_ROOM;
     }
     let answer = stakes::stake_out(
@@ -57,7 +57,7 @@ pub extern "C" fn crest_stake_out(
         heading_c as i64,
         heading_s as i64,
     );
-    answer_move(answer, room)
+    answer_move(answer, move_bytes)
 }
 
 // Only the first refusal and its reading go: 18 for bytes that are no run.

@@ -18,7 +18,7 @@ use Rattle.crest.proofs.crest_stake_out.Tie as tie
 returns : tie.Need-returns
 returns c =
     let a = c .before .before .args in
-    sym (stake-18 (record { x = a .own-x; y = a .own-y }) (record { x = a .target-x; y = a .target-y }) (a .heading-c) (a .heading-s) (now (a .room)) (c .if1 .taken))
+    sym (stake-18 (record { x = a .own-x; y = a .own-y }) (record { x = a .target-x; y = a .target-y }) (a .heading-c) (a .heading-s) (now (a .move-bytes)) (c .if1 .taken))
 
 point-requires : tie.Need-point-requires
 point-requires c κs = search needs
@@ -68,7 +68,7 @@ returns-2 c =
     let m = c .before .before in
     let k = m .before .before in
     let a = start k .args in
-    let room = now (a .room) in
+    let room = now (a .move-bytes) in
     ap₂ (λ (r : ℕ) (l : List ℕ). (r, l)) (m .answer-move .ensures .0 ∙ ap (λ (x : Move). code (paperOfMove x)) (moved k)) (m .answer-move .ensures .1 ∙ ap (λ (x : Move). moveBytes x room) (moved k))
     ∙ sym (stake-answered (own k) (target k) (a .heading-c) (a .heading-s) room (k .before .before .before .if1 .left))
 

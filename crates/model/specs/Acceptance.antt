@@ -1,4 +1,4 @@
--- Document 01, "The crest file" and "Refusal numbers": when a block, a record, a join and a file are accepted, in this order.
+-- docs/RULES.md, chapters 1, 2 and 8; document 01, "The crest file" and "Refusal numbers": when a block, a record, a join and a file are accepted, in this order.
 use Prim.Native.Nat.{ℕ, zero, suc, _+_, _-_, _*_, _^_}
 use mathlib.Core.Bool.{Bool, true, false, not, cond, _&&_, _||_}
 use mathlib.Core.List.{List, [], _∷_, _++_}

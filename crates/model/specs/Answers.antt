@@ -1,5 +1,5 @@
--- Document 01, "Station, offset, inverse, stake-out" and "Refusal numbers": what each question is answered, refused ones too. A question at a time: its formula, its order
--- of refusals, and its answer with the paper's values.
+-- docs/RULES.md, chapters 4, 6 and 8; document 01, "Station, offset, inverse, stake-out" and "Refusal numbers": what each question is answered, refused ones
+-- too. A question at a time: its formula, its order of refusals, and its answer with the paper's values.
 use Prim.Native.Nat.{ℕ, _*_, _+_}
 use mathlib.Core.Bool.{not, _&&_}
 use mathlib.Core.List.{List, [], _∷_, _++_}

@@ -1,4 +1,4 @@
--- Document 01, "Position on an element", from the words "Bound, stated over whole numbers": the three-term sums as fractions, and what it is to lie within 2 grains of one.
+-- docs/RULES.md, chapter 3; document 01, "Position on an element", from the words "Bound, stated over whole numbers": the three-term sums as fractions, and what it is to lie within 2 grains of one.
 use Prim.Native.Nat.{ℕ, _*_, _≤_, _^_}
 use lib.IntN.{ℤ, pos, natAbs, _+ℤ_, _-ℤ_, _*ℤ_, pow, one}
 use Rattle.model.specs.declared.Shape.{Shape}

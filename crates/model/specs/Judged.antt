@@ -1,4 +1,4 @@
--- Document 01, "Station, offset, inverse, stake-out": the station judged, residual and offset there.
+-- docs/RULES.md, chapter 4; document 01, "Station, offset, inverse, stake-out": the station judged, residual and offset there.
 use Prim.Native.Nat.{ℕ, zero, suc, _≤_, _<_}
 use mathlib.Core.Bool.{cond}
 use mathlib.Core.List.{List}

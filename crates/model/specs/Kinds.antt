@@ -1,4 +1,4 @@
--- Document 01, "The crest file": what the kind byte says, and the curve of each kind.
+-- docs/RULES.md, chapters 2 and 3; document 01, "The crest file": what the kind byte says, and the curve of each kind.
 use Prim.Native.Nat.{ℕ}
 use mathlib.Core.Bool.{Bool, true, false, cond, _||_}
 use lib.Dec.{ltb, eqb}

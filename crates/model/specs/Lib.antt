@@ -1,4 +1,5 @@
--- Document 01 as definitions, a file for each chapter or part of one, in the order in which they build on one another.
+-- The rules of docs/RULES.md as definitions, a file for each chapter or part of one, in the order in which they build on one another. Words in quotation
+-- marks are those of the requirements that the rules restate, document 01.
 pub mod Rounding
 pub mod Refusals
 pub mod Kinds

@@ -1,4 +1,4 @@
--- Document 01, "The crest file": fields, records, blocks and their sums. Bytes are lists of natural numbers.
+-- docs/RULES.md, chapter 2; document 01, "The crest file": fields, records, blocks and their sums. Bytes are lists of natural numbers.
 use Prim.Native.Nat.{ℕ, zero, suc, _+_, _-_, _*_, _/_, _%_}
 use mathlib.Core.Bool.{Bool, true, _&&_}
 use mathlib.Core.List.{List, [], _∷_, _++_}

@@ -1,4 +1,4 @@
--- Document 01, "Refusal numbers": the table as data, and what an order of refusals means.
+-- docs/RULES.md, chapter 8; document 01, "Refusal numbers": the table as data, and what an order of refusals means.
 use Prim.Native.Nat.{ℕ, zero, suc, _+_}
 use Prim.Native.String.{String}
 use mathlib.Core.Bool.{Bool, true, false}

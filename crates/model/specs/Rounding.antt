@@ -1,4 +1,4 @@
--- Document 01, "What the work covers": rounding.
+-- docs/RULES.md, chapter 1; document 01, "What the work covers": rounding.
 use Prim.Native.Nat.{ℕ, _*_, _^_}
 use lib.IntN.{ℤ, pos, _+ℤ_, _*ℤ_}
 use Rattle.integers.specs.Floor.{floorDiv}

@@ -1,4 +1,4 @@
--- Document 01, "Position on an element".
+-- docs/RULES.md, chapter 3; document 01, "Position on an element".
 use Prim.Native.Nat.{ℕ, _-_, _*_}
 use mathlib.Core.Bool.{Bool, true, false}
 use lib.IntN.{ℤ, pos, negsuc, negℤ, natAbs, _+ℤ_, _-ℤ_, _*ℤ_}

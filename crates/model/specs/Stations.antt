@@ -1,4 +1,4 @@
--- Document 01, "Station, offset, inverse, stake-out": stations, and what lies at one.
+-- docs/RULES.md, chapter 4; document 01, "Station, offset, inverse, stake-out": stations, and what lies at one.
 use Prim.Native.Nat.{ℕ, _+_, _-_}
 use mathlib.Core.Bool.{Bool, true, false, _&&_}
 use mathlib.Core.List.{List, [], _∷_}

@@ -1,4 +1,4 @@
--- Document 01, "The walk": the stations that both passes visit, in their order.
+-- docs/RULES.md, chapter 5; document 01, "The walk": the stations that both passes visit, in their order.
 use Prim.Native.Nat.{ℕ, zero, suc, _+_, _-_, _/_, _%_, min}
 use mathlib.Core.Bool.{Bool, true, false, cond}
 use mathlib.Core.List.{List, [], _∷_, _++_}

@@ -1,4 +1,4 @@
--- Document 01, "The crest file" and "Refusal numbers": the one file of record bytes, and what the writer leaves in its room.
+-- docs/RULES.md, chapters 2 and 8; document 01, "The crest file" and "Refusal numbers": the one file of record bytes, and what the writer leaves in its room.
 use Prim.Native.Nat.{ℕ, zero, suc, _+_, _-_, _*_, _/_, _%_}
 use mathlib.Core.Bool.{Bool, _&&_}
 use mathlib.Core.List.{List, [], _∷_, _++_}

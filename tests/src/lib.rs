@@ -35,7 +35,7 @@ pub mod raw {
         pub fn probe_position(crest: *const u8, crest_len: usize, station: u32, out: *mut u8, out_len: usize) -> u32;
         pub fn probe_locate(crest: *const u8, crest_len: usize, x: i32, y: i32, out: *mut u8, out_len: usize) -> u32;
         pub fn probe_inverse(crest: *const u8, crest_len: usize, station: u32, offset: i32, out: *mut u8, out_len: usize) -> u32;
-        pub fn probe_record(crest: *const u8, crest_len: usize, record: u32, out: *mut u8, out_len: usize) -> u32;
+        pub fn probe_record(crest: *const u8, crest_len: usize, i: u32, out: *mut u8, out_len: usize) -> u32;
     }
 }
 

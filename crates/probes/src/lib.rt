@@ -103,51 +103,51 @@ fn send(reply: Reply, room: &mut [u8]) -> u32
 
 // X, Y, Tx, Ty at a station, each i32: 18 first, for room that is not 16 bytes.
 #[no_mangle]
-pub extern "C" fn probe_position(file: &[u8], station: u32, out: &mut [u8]) -> u32
-    ensures { λ r. ⌜ (r, now (out .exit)) ≡ positionCall (fileCrest (now (file .entry))) (pos station) (now (out .entry)) ⌝ }
+pub extern "C" fn probe_position(crest: &[u8], station: u32, out: &mut [u8]) -> u32
+    ensures { λ r. ⌜ (r, now (out .exit)) ≡ positionCall (fileCrest (now (crest .entry))) (pos station) (now (out .entry)) ⌝ }
 {
     if out.len() != FOUR_SIZE {
         return refusals::WRONG_ROOM;
     }
-    send(reply_of_placed(position(file, station as i64)), out)
+    send(reply_of_placed(position(crest, station as i64)), out)
 }
 
 // Station, offset and residual of a point, and how many stations were visited, each of 32 bits: 18 first, for room that is not 16 bytes.
 #[no_mangle]
-pub extern "C" fn probe_locate(file: &[u8], x: i32, y: i32, out: &mut [u8]) -> u32
-    ensures { λ r. ⌜ (r, now (out .exit)) ≡ locateCall (fileCrest (now (file .entry))) (record { x = x; y = y }) (now (out .entry)) ⌝ }
+pub extern "C" fn probe_locate(crest: &[u8], x: i32, y: i32, out: &mut [u8]) -> u32
+    ensures { λ r. ⌜ (r, now (out .exit)) ≡ locateCall (fileCrest (now (crest .entry))) (record { x = x; y = y }) (now (out .entry)) ⌝ }
 {
     if out.len() != FOUR_SIZE {
         return refusals::WRONG_ROOM;
     }
-    send(reply_of_located(locate(file, point(x, y))), out)
+    send(reply_of_located(locate(crest, point(x, y))), out)
 }
 
 // X, Y at a station and an offset, each i32: 18 first, for room that is not 8 bytes.
 #[no_mangle]
-pub extern "C" fn probe_inverse(file: &[u8], station: u32, offset: i32, out: &mut [u8]) -> u32
-    ensures { λ r. ⌜ (r, now (out .exit)) ≡ inverseCall (fileCrest (now (file .entry))) (pos station) offset (now (out .entry)) ⌝ }
+pub extern "C" fn probe_inverse(crest: &[u8], station: u32, offset: i32, out: &mut [u8]) -> u32
+    ensures { λ r. ⌜ (r, now (out .exit)) ≡ inverseCall (fileCrest (now (crest .entry))) (pos station) offset (now (out .entry)) ⌝ }
 {
     if out.len() != TWO_SIZE {
         return refusals::WRONG_ROOM;
     }
     send(
-        reply_of_inverse(inverse(file, station as i64, offset as i64)),
+        reply_of_inverse(inverse(crest, station as i64, offset as i64)),
         out,
     )
 }
 
-// The 32 bytes of record r, counted from 0: 18 first, for room that is not 32 bytes; then the crest's own refusals; then 15.
+// The 32 bytes of record i, counted from 0: 18 first, for room that is not 32 bytes; then the crest's own refusals; then 15.
 #[no_mangle]
-pub extern "C" fn probe_record(file: &[u8], r: u32, out: &mut [u8]) -> u32
-    ensures { λ n. ⌜ (n, now (out .exit)) ≡ recordCall (now (file .entry)) r (now (out .entry)) ⌝ }
+pub extern "C" fn probe_record(crest: &[u8], i: u32, out: &mut [u8]) -> u32
+    ensures { λ n. ⌜ (n, now (out .exit)) ≡ recordCall (now (crest .entry)) i (now (out .entry)) ⌝ }
 {
     if out.len() != layout::RECORD_SIZE {
         return refusals::WRONG_ROOM;
     }
-    match record_outcome(file, r as usize) {
+    match record_outcome(crest, i as usize) {
         Outcome::Done => {
-            copy_at(out, 0, record_part(file, r as usize));
+            copy_at(out, 0, record_part(crest, i as usize));
             0
         }
         Outcome::Refused(why) => code_of(why),

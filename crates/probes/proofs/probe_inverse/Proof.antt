@@ -18,7 +18,7 @@ use Rattle.probes.proofs.probe_inverse.Tie as tie
 returns : tie.Need-returns
 returns c =
     let a = c .before .before .before .args in
-    sym (inverse-18 (fileCrest (now (a .file))) (now (a .out)) (c .if1 .taken) (pos (a .station)) (a .offset))
+    sym (inverse-18 (fileCrest (now (a .crest))) (now (a .out)) (c .if1 .taken) (pos (a .station)) (a .offset))
 
 cast-inverse : tie.Need-cast-inverse
 cast-inverse c = search needs
@@ -40,7 +40,7 @@ module _ (c : tie.After-reply-of-inverse) where
   start = test .before .before .before
 
   abbrev crest : Crest
-  crest = fileCrest (now (start .args .file))
+  crest = fileCrest (now (start .args .crest))
 
   abbrev station : ℤ
   station = pos (start .args .station)

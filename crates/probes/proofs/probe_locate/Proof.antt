@@ -18,7 +18,7 @@ use Rattle.probes.proofs.probe_locate.Tie as tie
 returns : tie.Need-returns
 returns c =
     let a = c .before .before .before .args in
-    sym (locate-18 (fileCrest (now (a .file))) (now (a .out)) (c .if1 .taken) (record { x = a .x; y = a .y }))
+    sym (locate-18 (fileCrest (now (a .crest))) (now (a .out)) (c .if1 .taken) (record { x = a .x; y = a .y }))
 
 point-requires : tie.Need-point-requires
 point-requires c κs = search needs
@@ -31,7 +31,7 @@ module _ (c : tie.After-locate) where
   start = c .before .before .before .before .before
 
   abbrev crest : Crest
-  crest = fileCrest (now (start .args .file))
+  crest = fileCrest (now (start .args .crest))
 
   abbrev q : Point
   q = record { x = start .args .x; y = start .args .y }

@@ -17,7 +17,7 @@ use Rattle.probes.proofs.probe_position.Tie as tie
 returns : tie.Need-returns
 returns c =
     let a = c .before .before .before .args in
-    sym (position-18 (fileCrest (now (a .file))) (now (a .out)) (c .if1 .taken) (pos (a .station)))
+    sym (position-18 (fileCrest (now (a .crest))) (now (a .out)) (c .if1 .taken) (pos (a .station)))
 
 cast-position : tie.Need-cast-position
 cast-position c = search needs
@@ -36,7 +36,7 @@ module _ (c : tie.After-reply-of-placed) where
   start = test .before .before .before
 
   abbrev crest : Crest
-  crest = fileCrest (now (start .args .file))
+  crest = fileCrest (now (start .args .crest))
 
   abbrev station : ℤ
   station = pos (start .args .station)

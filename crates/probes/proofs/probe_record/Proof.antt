@@ -33,7 +33,7 @@ module _ (c : tie.After-record-part) where
   abbrev start : tie.Start
   start = outcome .before .before .before .before
 
-  done : readerOutcome (now (start .args .file)) (start .args .r) ≡ Done
+  done : readerOutcome (now (start .args .crest)) (start .args .i) ≡ Done
   done = sym (outcome .record-outcome .ensures .0) ∙ c .before .before .enum-told .given .1
 
   sized : length (now (start .args .out)) ≡ 32

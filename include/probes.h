@@ -26,8 +26,8 @@ uint32_t probe_locate(const uint8_t *crest, size_t crest_len, int32_t x, int32_t
 /* X, Y at a station and an offset, int32_t each. Refusals, in this order: 18, 1 to 9, 15, 11. */
 uint32_t probe_inverse(const uint8_t *crest, size_t crest_len, uint32_t station, int32_t offset, uint8_t *out, size_t out_len);
 
-/* The bytes of a record, counted from 0 over all blocks. Refusals, in this order: 18, 1 to 9, 15. */
-uint32_t probe_record(const uint8_t *crest, size_t crest_len, uint32_t record, uint8_t *out, size_t out_len);
+/* The bytes of record i, counted from 0 over all blocks. Refusals, in this order: 18, 1 to 9, 15. */
+uint32_t probe_record(const uint8_t *crest, size_t crest_len, uint32_t i, uint8_t *out, size_t out_len);
 
 #ifdef __cplusplus
 }

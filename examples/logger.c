@@ -1,8 +1,8 @@
 /* The firmware of one night: the office writes a crest card, the logger at the dam loads it, takes readings unattended, and
  * shows its run on Monday morning. Then the same night with a damaged card.
  *
- *     cc -std=c11 -I include -o logger examples/logger.c target/staticlib/libcrest.a
- *     ./logger CARD        CARD is a file to write the card to
+ *     cc -std=c11 -Iinclude -o target/logger examples/logger.c target/staticlib/libcrest.a
+ *     target/logger target/card        the file is the card, which it writes
  */
 #include "crest.h"
 

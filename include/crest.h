@@ -1,19 +1,20 @@
-/* Crest alignments of embankment dams: the calls of the static library of crate `crest`.
+/* Crest alignments of embankment dams: the calls of libcrest.a, the static library of crate `crest`. For C99 and C++.
  *
  * Lengths and stations are whole millimetres. Plane coordinates and offsets are whole grains, 100 grains to 1 mm.
- * Turning from x towards y is left; left offsets are positive. A direction is a pair (c, s) with
+ * Turning from x towards y is left; left offsets and left radii are positive. A direction is a pair (c, s) with
  * c*c + s*s at most 2^31 from 2^60: its length is close to 2^30.
  *
  * Lent bytes are a pointer and a length. Every length is allowed, and no bytes are looked at outside it; with a length of 0
- * the pointer is not followed. The caller sees to it that the bytes a call changes overlap no others that it is lent, and
- * that nothing else writes lent bytes, or reads those that are changed, while the call runs. A call keeps nothing for the next.
+ * the pointer is not followed and may be NULL, which is tested and not proved. No alignment is asked for. The caller sees to it
+ * that the bytes a call changes overlap no others that it is lent, and that nothing else writes lent bytes, or reads those that
+ * are changed, while the call runs. A call keeps nothing for the next.
  *
  * Every call returns 0 where it answers, and else
  *
  *     number + 256 * place
  *
  * of its refusal: the number is CREST_NUMBER(r), the place CREST_PLACE(r). Where several apply, the first in the order
- * given with each call is returned.
+ * given with each call is returned. crest_text.h has these sentences as strings.
  *
  *     no.  given exactly when                                                                       place
  *      1   the crest's byte count is not 512, 1024, 1536 or 2048                                    0
@@ -22,11 +23,8 @@
  *          outside its used records is not                                                          block
  *      4   a record's kind is damaged, or one of its bytes 1 to 3 or 28 to 31 is not zero           record
  *      5   a record's kind is 5 to 15, of a later edition                                           record
- *      6   a record's length (1 to 500,000 mm), radius (a line's 0; an arc's 2 lengths to
- *          10,000,000 mm either way; a spiral's 1 length to that), x or y (200,000,000 grains
- *          either way) is out of range                                                              record
- *      7   a direction is not a unit: a record's                                                    record
- *                                     the heading's                                                 0
+ *      6   a record's length, radius, x or y is out of range                                        record
+ *      7   a direction is not a unit: a record's or the heading's                                   record; 0
  *      8   a gap at a join: more than 100 grains in a coordinate                                    earlier record
  *      9   a kink at a join: more than 1,000,000 in a component of the direction                    earlier record
  *     10   a reading's number is not finite or not whole                                            0
@@ -34,13 +32,62 @@
  *          resulting                                                                                0
  *     12   the point lies more than 20,000,000 grains from the nearest station                      0
  *     13   the point lies before the start: station 0 with a residual below -100 grains             0
- *     14   the point lies after the end: the last station with a residual above 100 grains          0
+ *     14   the point lies past the end: the last station with a residual above 100 grains           0
  *     15   a station, an offset or a record number is out of range                                  0
  *     16   the run is full                                                                          0
  *     17   the writer's record bytes are not 32 times 1 to 60                                       0
  *     18   the room is smaller than the blocks needed, a run's bytes are not 24, or a move's not 8  0
  *
  * Blocks are counted from 0, and so are records, over all blocks.
+ *
+ *
+ * What a call needs
+ *
+ * No heap, no variables outside its stack, no locks, no system calls: a call changes the bytes lent to it for that, and nothing
+ * else. So calls may be made from several threads at once, or one interrupt another, as long as no two of them share a run or a
+ * room; lent bytes that are only read may be shared.
+ *
+ *     call                 stack, bytes  work
+ *     crest_check                   344  its bytes, records and joins, once: some 42,000 instructions for 60 records
+ *     crest_write                   456  as crest_check, and writing: as many
+ *     crest_plane_reading           664  as crest_check, and the walk below
+ *     crest_line_reading            664  as crest_check, and one position: some 43,000 instructions
+ *     crest_stake_out                64  some 80 instructions
+ *     crest_acknowledge              64  some 20 instructions
+ *
+ * The stack is counted from the caller's frame, return addresses included; no call recurses, and the frames of the compiled
+ * functions come to no more for any arguments (bench/stack, tests/install). Instructions are as bench/run counts them.
+ *
+ * Only crest_plane_reading searches. Its walk visits stations, twice over the crest: on one of T mm at most T + T / 1000 + 3 of
+ * them, and never more than 30,030,002, since T is 30,000,000 at the most. There are crests and points where it comes to that
+ * many. Most calls visit few: some 750 for points within 3 m of a crest of 300 m. Time is measured and not proved. On one
+ * x86-64 core of 2.6 GHz, least of 15 calls (bench/longest):
+ *
+ *     the longest call known, refused with 12      30,030,002 visits    865 ms    29 ns a visit
+ *     the longest known that is answered            6,006,002 visits    173 ms    29 ns a visit
+ *     as the first, where no roots are taken       30,030,002 visits    324 ms    11 ns a visit
+ *
+ * A watchdog that must not fire during a call has to wait for 30,030,002 visits, or for those of the longest crest in use.
+ *
+ *
+ * The target
+ *
+ * The archive is for x86-64 Linux, System V calling convention, size_t of 64 bits. It is one object of some 10 KB, code and
+ * constants; nothing in it is writable, and each function has a section of its own. It is position independent, has no
+ * instructions beyond SSE2, and writes no byte below its stack pointer. Of other libraries it may need memset and memcpy, and
+ * today needs memset alone, for crest_write: firmware without a C library has to supply it.
+ *
+ * The toolchain compiles for x86-64 only: another target takes a back end for it, and the check run again with that. The sources
+ * read and write lent bytes one by one, so that no byte order is assumed, and compute with whole numbers of at most 64 bits.
+ *
+ *
+ * Floating point
+ *
+ * Only the two readings take doubles. Each is compared with itself, which tells a NaN, and else read from its bits: nothing is
+ * computed, converted or rounded in floating point. The proofs take the mode to be the default one. Rounding mode, flush-to-zero
+ * and denormals-are-zero were tried and change nothing (tests/c/calls.c), and the calls leave the mode as it is. The comparison
+ * sets the invalid flag for a signalling NaN and the denormal flag for a subnormal: a caller that has unmasked one of these
+ * exceptions is interrupted by it.
  */
 #ifndef CREST_H
 #define CREST_H
@@ -52,6 +99,11 @@
 extern "C" {
 #endif
 
+/* The version: 10000 * major + 100 * minor + patch, for #if, and as text. Major rises where the parameters of a call, a layout or
+ * an answer changes; minor where calls or refusal numbers are added; patch where neither is so. */
+#define CREST_VERSION 10000
+#define CREST_VERSION_TEXT "1.0.0"
+
 #define CREST_NUMBER(r) ((uint32_t)(r) % 256u)
 #define CREST_PLACE(r) ((uint32_t)(r) / 256u)
 
@@ -61,6 +113,23 @@ extern "C" {
 #define CREST_FILE_BYTES_MAX 2048u
 #define CREST_RUN_BYTES 24u
 #define CREST_MOVE_BYTES 8u
+
+/* A record is one element: 32 bytes, little-endian. A crest has 1 to 60 of them, in the order of the stations.
+ *
+ *     0  kind     uint8_t                1 line, 2 arc, 3 entry spiral, 4 exit spiral
+ *     1  zero     3 bytes
+ *     4  length   uint32_t  mm           1 to 500,000
+ *     8  x        int32_t   grains       -200,000,000 to 200,000,000
+ *    12  y        int32_t   grains       -200,000,000 to 200,000,000
+ *    16  c        int32_t   2^30 is 1    c*c + s*s at most 2^31 from 2^60
+ *    20  s        int32_t   2^30 is 1
+ *    24  radius   int32_t   mm           of a line 0; of an arc 2 lengths to 10,000,000, of a spiral 1 length to
+ *                                        10,000,000, or the negative of that; to the left is positive
+ *    28  zero     uint32_t
+ *
+ * (x, y) is the anchor, and (c, s) the direction there in which stations rise: cosine and sine of its angle from x towards y.
+ * The anchor of a line, an arc and an entry spiral is its start, that of an exit spiral its far end. A spiral is straight at its
+ * anchor and has its radius at the other end; an arc has it all along. docs/FORMAT.md has the whole file. */
 
 /* Whether a crest file is accepted. Refusals, in this order: 1; 2 for all blocks; 3 for all; then record by record 4 or 5
  * for its kind, 4 for its reserved bytes, 6, 7; then join by join 8 before 9. */
@@ -82,7 +151,7 @@ uint32_t crest_write(const uint8_t *records, size_t records_len, uint8_t *room, 
  *    16                  int32_t    offset        | y           | 0
  *    20                  int32_t    residual      | 0           | 0
  *
- * The latest values are those of a plane point | of a line place | of a refusal.
+ * The latest values are those of a plane point | of a line place | of a refusal. Offset and residual are in grains.
  *
  * A reading is refused with 18 where its run is not 24 bytes, and with 16 where answered + refused is 65,535 or more: both
  * before all else, and both change no byte. Any other reading is counted, its refusal too. */

@@ -473,7 +473,7 @@ static void print_reading(size_t number, const reading *r)
         printf(", offset %+.2f mm, residual %+.2f mm", r->offset / 100.0, r->residual / 100.0);
     } else {
         printf("refused %" PRIu32 ": ", CREST_NUMBER(r->returned));
-        fputs(sentence(CREST_NUMBER(r->returned)), stdout);
+        fputs(crest_refusal_text(CREST_NUMBER(r->returned)), stdout);
     }
 }
 

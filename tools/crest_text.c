@@ -252,7 +252,7 @@ static void print_refused(const char *path, const elements *all, uint32_t return
     default:
         fprintf(stderr, "%zu elements: ", all->count);
     }
-    fprintf(stderr, "refused %u: %s\n", number, sentence(number));
+    fprintf(stderr, "refused %u: %s\n", number, crest_refusal_text(number));
 }
 
 static int save(const char *path, const uint8_t *bytes, size_t len)

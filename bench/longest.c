@@ -1,0 +1,132 @@
+/* The longest calls: what a reading returns, how many stations its walk visits, and its time.
+   The visits are counted by a walk written here from document 01 over the positions of plain.h, since a refused call tells no count. What
+   the call returns, and the library's own count where it answers, have to be those of this walk.
+   usage: longest FILE TIMES -- on the crest and the first point of FILE (bench/longest_crests.py), the call timed TIMES times */
+#include <stdio.h>
+#include <stdlib.h>
+#include <time.h>
+
+#include "crest.h"
+#include "plain.h"
+#include "probes.h"
+
+enum { MOST_ELEMENTS = 60, FIRST_STEP = 1000, SLACK = 31, DIVISOR = 150, TOO_FAR = 12 };
+
+static const uint64_t FARTHEST = 400000000000000;
+
+static uint8_t crest[CREST_FILE_BYTES_MAX];
+static uint32_t length;
+static int32_t point[2];
+
+static element elements[MOST_ELEMENTS];
+static int64_t starts[MOST_ELEMENTS + 1]; /* the first station of each element, and after them the crest's last station */
+static int count;
+
+static int64_t field(const uint8_t *at)
+{
+    return (int32_t)(at[0] | at[1] << 8 | at[2] << 16 | (uint32_t)at[3] << 24);
+}
+
+static int load(const char *path)
+{
+    FILE *file = fopen(path, "rb");
+    uint32_t points;
+    int whole = file != 0 && fread(&length, 4, 1, file) == 1 && length <= sizeof crest && fread(crest, 1, length, file) == length
+                && fread(&points, 4, 1, file) == 1 && fread(point, 4, 2, file) == 2;
+    if (file != 0)
+        fclose(file);
+    return whole;
+}
+
+/* the elements of a crest that the library accepts */
+static void take_elements(void)
+{
+    for (uint32_t block = 0; block < length; block += CREST_BLOCK_BYTES)
+        for (uint32_t r = 0; r < crest[block + 482]; r++) {
+            const uint8_t *at = crest + block + CREST_RECORD_BYTES * r;
+            elements[count] = (element){at[0], field(at + 4), field(at + 8), field(at + 12), field(at + 16), field(at + 20), field(at + 24)};
+            starts[count + 1] = starts[count] + elements[count].length;
+            count++;
+        }
+}
+
+/* D(s); `at` is the element of an earlier station, and becomes that of this one */
+static uint64_t squared(int64_t station, int *at)
+{
+    int64_t x, y;
+    while (*at + 1 < count && station >= starts[*at + 1])
+        (*at)++;
+    position(&elements[*at], station - starts[*at], &x, &y);
+    return (uint64_t)((x - point[0]) * (x - point[0]) + (y - point[1]) * (y - point[1]));
+}
+
+/* how many stations the walk visits, both passes together, and the least D */
+static uint32_t walked(uint64_t *best)
+{
+    int64_t total = starts[count];
+    uint32_t visits = 0;
+    int at = 0;
+    *best = UINT64_MAX;
+    for (int64_t s = 0; s <= total; s = s < total && s + FIRST_STEP > total ? total : s + FIRST_STEP) {
+        uint64_t d = squared(s, &at);
+        *best = d < *best ? d : *best;
+        visits++;
+    }
+    at = 0;
+    for (int64_t s = 0; s <= total;) {
+        uint64_t d = squared(s, &at);
+        *best = d < *best ? d : *best;
+        visits++;
+        int64_t surplus = (int64_t)root(d) - (int64_t)root(*best);
+        int64_t next = s + 1 + (surplus < SLACK ? 0 : (surplus - SLACK) / DIVISOR);
+        s = at + 1 < count && next > starts[at + 1] ? starts[at + 1] : next;
+    }
+    return visits;
+}
+
+static double milliseconds(uint32_t *returned)
+{
+    uint8_t run[CREST_RUN_BYTES] = {0};
+    struct timespec from, to;
+    clock_gettime(CLOCK_MONOTONIC, &from);
+    *returned = crest_plane_reading(crest, length, point[0], point[1], run, sizeof run);
+    clock_gettime(CLOCK_MONOTONIC, &to);
+    return (to.tv_sec - from.tv_sec) * 1e3 + (to.tv_nsec - from.tv_nsec) / 1e6;
+}
+
+static int by_size(const void *a, const void *b)
+{
+    double x = *(const double *)a, y = *(const double *)b;
+    return (x > y) - (x < y);
+}
+
+static int agrees(uint32_t returned, uint32_t visits, uint64_t best)
+{
+    uint8_t located[PROBE_LOCATE_BYTES] = {0};
+    if (returned != (best > FARTHEST ? TOO_FAR : 0) || probe_locate(crest, length, point[0], point[1], located, sizeof located) != returned)
+        return 0;
+    return returned != 0 || field(located + 12) == visits;
+}
+
+int main(int argc, char **argv)
+{
+    int times = argc == 3 ? atoi(argv[2]) : 0;
+    double *taken = malloc(sizeof *taken * (size_t)(times > 0 ? times : 1));
+    uint32_t returned = 0, visits;
+    uint64_t best;
+    if (times < 1 || taken == 0 || !load(argv[1]) || crest_check(crest, length) != 0)
+        return 2;
+    take_elements();
+    visits = walked(&best);
+    for (int i = 0; i < times; i++)
+        taken[i] = milliseconds(&returned);
+    if (!agrees(returned, visits, best)) {
+        printf("answers differ\n");
+        return 1;
+    }
+    qsort(taken, (size_t)times, sizeof *taken, by_size);
+    printf("%u %lld %u, %.1f %.1f, %.1f\n", (unsigned)returned, (long long)starts[count], (unsigned)visits, taken[0], taken[times / 2],
+           taken[0] * 1e6 / visits);
+    free(taken);
+    return 0;
+}

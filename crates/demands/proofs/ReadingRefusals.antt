@@ -1,7 +1,7 @@
 -- Document 01, "Refusal numbers", of a reading: 1 to 9 are the crest's own, and 10 to 15 are given exactly when, on a crest of any source and by a C call on a run. A reading of
 -- whole numbers is answered and refused as its point or its place is, since the rule of its numbers stands between the crest's own rules and those of the question.
 use Prim.Native.Nat.{ℕ, _+_, _*_, _≤_, _<_}
-use mathlib.Core.Bool.{true, false, _&&_, false≢true, and-eq-true-iff}
+use mathlib.Core.Bool.{true, false, _&&_, and-eq-true-iff}
 use mathlib.Core.List.{List, _++_, append-assoc}
 use mathlib.Core.Logic.{_≢_, _⊎_, ⊎-map, _↔_, Iff·rfl, Iff·trans, Iff·and}
 use mathlib.Core.Path.{_≡_, refl, sym, _∙_, ap, ap₂}
@@ -41,7 +41,7 @@ use Rattle.integers.proofs.Order.{clash}
 use Rattle.model.proofs.AfterCrest.{held-between, next-after-crest}
 use Rattle.demands.proofs.Places.{first-part, second-part}
 use Rattle.demands.proofs.Demand1.{Numbered, came-numbered, ReadingEnds, no-run, run-full, counts, any-reading-call}
-use Rattle.demands.proofs.RefusalTable.{place-refused-11, place-refused-15}
+use Rattle.demands.proofs.RefusalTable.{not-own, place-refused-11, place-refused-15}
 
 -- ---- a reading's numbers
 
@@ -68,10 +68,6 @@ pointRead x y = record { x = valueOf (wholeOf x); y = valueOf (wholeOf y) }
 abbrev pub OutsideAsked : List Element → ℤ → ℤ → Type 0
 OutsideAsked es s w =
     ((isStation es s ≡ true) × (natAbs w ≤ 20000000)) × (inFrame (inverseAt es (natAbs s) w .x) (inverseAt es (natAbs s) w .y) ≡ false)
-
--- a number that no crest gives of its own is none of the own numbers
-not-own : {n : ℕ} (why : Reason) → isOwn n ≡ true → isOwn (number why) ≡ false → number why ≢ n
-not-own why own-number later e = false≢true (sym later ∙ ap isOwn e ∙ own-number)
 
 -- a plane reading's answer is that of its point
 from-answered : (l : Located) {station : ℕ} {offset residual : ℤ} {count : ℕ} → (fromLocated l ≡ AnswerPoint station offset residual count) ↔ (l ≡ LocatedAt station offset residual count)

@@ -1,17 +1,17 @@
--- Document 01, "Refusal numbers": "given exactly when". Here stand 1 to 9 with their places, 7 for a heading, 11 and 15 to 18; 12 to 14 are with demand 3, and 10 to 15 of a
+-- Document 01, "Refusal numbers": "given exactly when". Here stand 1 to 9 with their places and of what is asked of a crest, 7 for a heading, 11 and 15 to 18; 12 to 14 are with demand 3, and 10 to 15 of a
 -- reading in ReadingRefusals.
 -- A number is given exactly when a rule that gives it is the first that fails in its order.
 use Prim.Native.Nat.{ℕ, _+_, _*_, _≤_, _<_}
 use mathlib.Core.Bool.{Bool, true, false, _&&_, false≢true, and-eq-true-iff}
 use mathlib.Core.List.{List, [], _∷_, _++_, append-assoc, append-nil}
-use mathlib.Core.Logic.{_≢_, _⊎_, ⊎-map, _↔_, Iff·rfl, Iff·trans, Iff·and}
+use mathlib.Core.Logic.{_≢_, _⊎_, ⊎-map, _↔_, Iff·rfl, Iff·symm, Iff·trans, Iff·and}
 use mathlib.Core.Path.{_≡_, refl, sym, _∙_, ap, ap₂}
 use native.Mathlib.Nat.{add-zero, zero-add}
 use native.Mathlib.Omega.{arith}
 use lib.Dec.{leb, ltb, eqb}
 use lib.IntN.{ℤ, natAbs}
 use lib.ListN.{length}
-use borrow.Author.Tests.{leb-true, leb-false, le-leb, lt-leb, ltb-false, le-ltb, eqb-false, ne-eqb}
+use borrow.Author.Tests.{leb-true, leb-false, le-leb, lt-leb, ltb-false, le-ltb, eqb-true, eqb-false, eq-eqb, ne-eqb}
 use Rattle.model.specs.declared.Point.{Point}
 use Rattle.model.specs.declared.Refusal.{Refusal}
 use Rattle.model.specs.declared.Outcome.{Outcome}
@@ -23,14 +23,14 @@ use Rattle.model.specs.declared.Move.the-variants.{Refused as MoveRefused}
 use Rattle.model.specs.declared.ReadingAnswer.{ReadingAnswer}
 use Rattle.model.specs.declared.ReadingAnswer.the-variants.{Refused as AnswerRefused}
 use Rattle.model.specs.declared.Run.{Run}
-use Rattle.model.specs.Refusals.{Reason, byteCount, checksum, blockField, damagedRecord, laterKind, fieldOutOfRange, notUnit, gap, kink, outsideFrame, askedOutOfRange, runFull, recordCount, wrongRoom, Rule, number, refusal, rule, rule₀, Gives, verdict, forEach}
+use Rattle.model.specs.Refusals.{Reason, byteCount, checksum, blockField, damagedRecord, laterKind, fieldOutOfRange, notUnit, gap, kink, outsideFrame, tooFar, beforeStart, afterEnd, askedOutOfRange, runFull, recordCount, wrongRoom, Rule, number, refusal, rule, rule₀, Gives, verdict, forEach}
 use Rattle.model.specs.Records.{blockSize, blockCount, blockOf, recordBytes, countOf, recordOf}
 use Rattle.model.specs.Acceptance.{inFrame, isUnit, recordRules, joinRules, elementAt, recordsRules, lengthFits, sumsAgree, fieldsFit, sumRules, fieldRules, blocksRules, crestRules}
 use Rattle.model.specs.Crest.{Crest, checkOf, fileCrest, isOwn}
 use Rattle.model.specs.Stations.{isStation}
 use Rattle.model.specs.Writer.{countFits, blocksNeeded, writerRules, writerOutcome}
-use Rattle.model.specs.Answers.{code, paperOfOutcome, readerOutcome, stationRules, stationQuestion, placed, located, inverseAt, lineRules, placeQuestion, inverse, moveRules, moveQuestion, stakeOut}
-use Rattle.model.proofs.Answers.{told-exactly, station-tells, place-tells, move-tells}
+use Rattle.model.specs.Answers.{code, paperOfOutcome, readerOutcome, stationRules, stationQuestion, placed, pointRules, pointQuestion, located, inverseAt, lineRules, placeQuestion, inverse, moveRules, moveQuestion, stakeOut}
+use Rattle.model.proofs.Answers.{told-exactly, station-tells, point-tells, place-tells, move-tells}
 use Rattle.model.specs.Readings.{refusesReading}
 use Rattle.model.specs.Run.{isFull, runAt, noted}
 use Rattle.model.specs.Calls.{readingCall, acknowledgeCall, stakeOutCall}
@@ -46,7 +46,7 @@ use Rattle.run.proofs.Calls.{reading-18, reading-16, answer-not-the-runs, ackno
 use Rattle.run.proofs.Noting.{noted-full, noted-counted}
 use Rattle.integers.proofs.Tests.{and-fails}
 use Rattle.model.proofs.AfterCrest.{two-rules, first-given, given-after-crest, next-after-crest}
-use Rattle.demands.proofs.Places.{lacks-rule, lacks-forEach, nowhere, here, given-at-place}
+use Rattle.demands.proofs.Places.{first-part, second-part, lacks-rule, lacks-forEach, nowhere, here, given-at-place}
 use Rattle.demands.proofs.RecordRefusals.{RecordGives4, RecordGives5, RecordGives6, RecordGives7, JoinGives8, JoinGives9, record-gives-4, record-gives-5, record-gives-6, record-gives-7, join-gives-8, join-gives-9, RecordReached, JoinReached, records-lack, given-at-record, given-at-join}
 use Rattle.demands.proofs.Demand1.{Numbered, refused-numbered, came-as-read, ReadingEnds, no-run, run-full, counts, any-reading-call, stakeOutRules, stake-out-code}
 
@@ -164,6 +164,31 @@ module _ (file : List ℕ) (r : ℕ) where
       ↔ (JoinReached (blocksRules file) (recordBytes file) r × JoinGives9 (elementAt (recordBytes file) r) (elementAt (recordBytes file) (r + 1)))
   unfolding number
   check-refused-9 = check-at-join kink (omega arith) (join-gives-9 _ _ r)
+
+-- ---- 1 to 9 of what is asked of a crest: with a crest's own number it is refused exactly when the crest is
+
+-- a number that no crest gives of its own is none of the own numbers
+pub not-own : {n : ℕ} (why : Reason) → isOwn n ≡ true → isOwn (number why) ≡ false → number why ≢ n
+not-own why own-number later e = false≢true (sym later ∙ ap isOwn e ∙ own-number)
+
+module _ (c : Crest) (why : Refusal) (own-number : isOwn (why .number) ≡ true) where
+  pub position-refused-own : (s : ℤ) → (placed c s ≡ PlacedRefused why) ↔ (checkOf c ≡ Refused why)
+  unfolding stationQuestion stationRules number isOwn
+  position-refused-own s =
+      Iff·trans (told-exactly (station-tells s (c .elements)) (c .rules) why) (first-part (c .rules) _ why (other (not-own askedOutOfRange own-number refl) empty))
+
+  pub located-refused-own : (p : Point) → (located c p ≡ LocatedRefused why) ↔ (checkOf c ≡ Refused why)
+  unfolding pointQuestion pointRules number isOwn
+  located-refused-own p =
+      Iff·trans (told-exactly (point-tells p (c .elements)) (c .rules) why)
+      (first-part (c .rules) _ why
+      (other (not-own outsideFrame own-number refl) (other (not-own tooFar own-number refl) (other (not-own beforeStart own-number refl) (other (not-own afterEnd own-number refl) empty)))))
+
+  pub inverse-refused-own : (s w : ℤ) → (inverse c s w ≡ InverseRefused why) ↔ (checkOf c ≡ Refused why)
+  unfolding placeQuestion lineRules number isOwn
+  inverse-refused-own s w =
+      Iff·trans (told-exactly (place-tells s w (c .elements)) (c .rules) why)
+      (first-part (c .rules) _ why (other (not-own askedOutOfRange own-number refl) (other (not-own outsideFrame own-number refl) empty)))
 
 -- ---- 11 and 15 on a crest of any source, after its own: of a file, `fileCrest file` with `file-sound file .own`
 
@@ -365,3 +390,23 @@ stake-out-call-refused-18 own target c s room =
     rw (stake-out-code own target c s room)
     (Iff·trans (returns-number wrongRoom (stakeOutRules own target c s room))
     (Iff·trans (first-given (rule₀ wrongRoom (eqb (length room) 8)) (moveRules own target c s) (other (omega arith) (other (omega arith) (other (omega arith) empty)))) (eqb-false (length room) 8, ne-eqb (length room) 8)))
+
+-- 11 and 7 of a C move: where its room is 8 bytes, as the move is refused
+module _ (own target : Point) (c s : ℤ) (room : List ℕ) where
+  given-by-call : (why : Reason) → number why ≢ 18 → (stakeOutCall own target c s room .0 ≡ number why) ↔ ((length room ≡ 8) × (stakeOut own target c s ≡ MoveRefused (refusal why 0)))
+  unfolding moveQuestion number refusal
+  given-by-call why other-number =
+      let room-fits = rule₀ wrongRoom (eqb (length room) 8) in
+      rw (stake-out-code own target c s room)
+      (Iff·trans (returns-number why (stakeOutRules own target c s room))
+      (Iff·trans (second-part (room-fits ∷ []) (moveRules own target c s) (refusal why 0) (other (λ e. other-number (sym e)) empty))
+      (Iff·and (Iff·trans (one-done wrongRoom 0) (eqb-true (length room) 8, eq-eqb (length room) 8)) (Iff·symm (told-exactly (move-tells own target c s) [] (refusal why 0))))))
+
+  pub stake-out-call-refused-11 : (stakeOutCall own target c s room .0 ≡ 11) ↔ ((length room ≡ 8) × ((inFrame (own .x) (own .y) ≡ false) ⊎ (inFrame (target .x) (target .y) ≡ false)))
+  unfolding number
+  stake-out-call-refused-11 = Iff·trans (given-by-call outsideFrame (omega arith)) (Iff·and Iff·rfl (stake-out-refused-11 own target c s))
+
+  pub stake-out-call-refused-7 : (stakeOutCall own target c s room .0 ≡ 7) ↔
+      ((length room ≡ 8) × ((inFrame (own .x) (own .y) ≡ true) × (inFrame (target .x) (target .y) ≡ true) × (isUnit c s ≡ false)))
+  unfolding number
+  stake-out-call-refused-7 = Iff·trans (given-by-call notUnit (omega arith)) (Iff·and Iff·rfl (stake-out-refused-7 own target c s))

@@ -10,7 +10,7 @@ import sys
 from math import isqrt
 
 import crest
-from crest import ARC, ENTRY, EXIT, LINE, ONE
+from crest import ARC, BLOCK_SIZE, ENTRY, EXIT, FIRST_STEP, FRAME, LINE, ONE, PAST_END, ROOT_SLACK, STEP_DIVISOR
 from random_crests import (
     Wish,
     beside,
@@ -23,7 +23,6 @@ from random_crests import (
 )
 
 SEED = 20_240_501
-FRAME = crest.FRAME
 
 
 # ---------------------------------------------------------------------------
@@ -34,8 +33,8 @@ def families(rng):
     """(name, how many, a function that gives a Wish)."""
     return [
         ("mixed", 400, lambda: Wish(rng.randint(1, 10), longest=rng.choice((20, 60, 200)))),
-        ("one element", 80, lambda: Wish(1, longest=rng.choice((1, 3, 1000, 1500)))),
-        ("single millimetres", 120, lambda: Wish(rng.randint(2, 60), longest=rng.randint(1, 3))),
+        ("one element", 80, lambda: Wish(1, longest=rng.choice((1, 3, FIRST_STEP, 1500)))),
+        ("single millimetres", 120, lambda: Wish(rng.randint(2, crest.MOST_RECORDS), longest=rng.randint(1, 3))),
         ("limits", 120, lambda: Wish(rng.randint(2, 8), longest=rng.choice((1, 50, 150)), at_limit=100)),
         ("loops", 100, lambda: loop(rng)),
         ("there and back", 60, lambda: Wish(rng.randint(8, 16), longest=120, kinds=(ARC, ENTRY, EXIT), tight=90)),
@@ -63,26 +62,25 @@ def corner(rng):
         longest=rng.choice((5, 100)),
         kinds=(LINE, ARC, ENTRY),
         kink=rng.choice((0, 1000)),
-        gap=0 if away == 0 else 100,
+        gap=0 if away == 0 else crest.WIDEST_GAP,
         middle=(x * (FRAME - away), y * (FRAME - away)),
         heading=unit(-x * rng.randint(5, 9), -y * rng.randint(5, 9)),
     )
 
 
 def round_totals(rng):
-    """Alignments whose T is a multiple of 1,000."""
+    """Alignments whose T is a multiple of the first pass's step."""
     made = 0
     while made < 80:
-        total = rng.choice((1000, 1000, 2000))
+        total = rng.choice((FIRST_STEP, FIRST_STEP, 2 * FIRST_STEP))
         wish = Wish(rng.randint(2, 14), shortest=50, longest=400, kinds=(LINE, ARC, ARC, ENTRY, EXIT))
         elements = ended(random_elements(rng, wish), total)
         if elements is None:
             continue
         records = b"".join(map(crest.record_of, elements))
-        refusal, file = crest.write(records, bytes(2048))
+        refusal, file = crest.write(records, bytes(BLOCK_SIZE * crest.blocks_needed(len(elements))))
         if refusal is not None:
             continue
-        file = file[: 512 * -(-len(elements) // 15)]
         alignment = crest.check(file)
         assert alignment.total == total
         made += 1
@@ -103,10 +101,11 @@ def all_alignments(rng):
 
 
 def points_for(rng, alignment):
-    """Both ends on each side of 100 grains, a centre, a corner, and random points."""
+    """Both ends on each side of the limit of 13 and 14, a centre, a corner, and random points."""
     total = alignment.total
-    points = [beside(alignment, 0, -past, 0) for past in rng.sample((99, 100, 101, 102), 2)]
-    points += [beside(alignment, total, past, 0) for past in rng.sample((99, 100, 101, 102), 2)]
+    limits = PAST_END - 1, PAST_END, PAST_END + 1, PAST_END + 2
+    points = [beside(alignment, 0, -past, 0) for past in rng.sample(limits, 2)]
+    points += [beside(alignment, total, past, 0) for past in rng.sample(limits, 2)]
     curved = [s for s in (rng.randint(0, total) for _ in range(6)) if centre_of_curvature(alignment, s)]
     if curved:
         points.append(centre_of_curvature(alignment, curved[0]))
@@ -130,14 +129,14 @@ def expected(alignment, positions, point, distances, stations_visited):
     station = distances.index(least)
     tx, ty = crest.direction_at(alignment, station)
     dx, dy = point[0] - positions[station][0], point[1] - positions[station][1]
-    residual = (2 * (tx * dx + ty * dy) + ONE) >> 31
-    offset = (2 * (tx * dy - ty * dx) + ONE) >> 31
+    residual = (2 * (tx * dx + ty * dy) + ONE) // (2 * ONE)
+    offset = (2 * (tx * dy - ty * dx) + ONE) // (2 * ONE)
     assert is_near(residual, tx * dx + ty * dy) and is_near(offset, tx * dy - ty * dx)
-    if least > 20_000_000**2:
+    if least > crest.FARTHEST:
         return station, (12, 0, 0, 0, 0, 0)
-    if station == 0 and residual < -100:
+    if station == 0 and residual < -PAST_END:
         return station, (13, 0, 0, 0, 0, 0)
-    if station == alignment.total and residual > 100:
+    if station == alignment.total and residual > PAST_END:
         return station, (14, 0, 0, 0, 0, 0)
     return station, (0, 0, station, offset, residual, stations_visited)
 
@@ -145,7 +144,7 @@ def expected(alignment, positions, point, distances, stations_visited):
 def visits_again(alignment, distances):
     """Both visit lists of the walk once more, element by element over its own stations."""
     total = alignment.total
-    first = [s for s in range(total + 1) if s % 1000 == 0 or s == total]
+    first = [s for s in range(total + 1) if s % FIRST_STEP == 0 or s == total]
     best = min(distances[s] for s in first)
     second = []
     for start, element in zip(alignment.starts, alignment.elements):
@@ -158,7 +157,7 @@ def visits_again(alignment, distances):
             if distances[s] < best:
                 best = distances[s]
             a, b = isqrt(distances[s]), isqrt(best)
-            s = s + 1 if a - b < 31 else s + 1 + (a - b - 31) // 150
+            s = s + 1 if a - b < ROOT_SLACK else s + 1 + (a - b - ROOT_SLACK) // STEP_DIVISOR
     return first, second
 
 

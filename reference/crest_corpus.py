@@ -9,7 +9,12 @@ from math import isqrt
 
 import crest
 import random_crests
-from crest import ARC, ENTRY, EXIT, FRAME, GAP_LIMIT, KINK_LIMIT, LINE, LONGEST, ONE, WIDEST, Element
+from crest import (
+    ARC, BLOCK_SIZE, BLOCK_ZEROS, C_AT, EDITION, EDITION_AT, ENTRY, EXIT, FIELDS_AT, FILE_SIZES, FIRST_ZEROS_AT, FRAME,
+    GRAINS, KIND_AT, LAST_ZEROS_AT, LINE, LONGEST_ELEMENT, MOST_BLOCKS, MOST_RECORDS, ONE, PER_BLOCK, RADIUS_AT,
+    RECORD_LENGTH_AT, RECORD_SIZE, RECORDS_END, RESERVED, S_AT, SUM_B_AT, SUM_MODULUS, SUMS_AT, UNIT_SLACK, UNIT_SQUARE,
+    USED_AT, WIDEST, WIDEST_GAP, WIDEST_KINK, X_AT, Y_AT, Element, least_radius, record_start,
+)  # fmt: skip
 from plain_files import altered, file_refusal, line, lines, patched, raw_file, records_of, sealed
 from random_crests import AXES, Wish, random_elements, random_file
 from rows import FILE
@@ -18,12 +23,13 @@ ROOM = 2_600
 KINDS = (LINE, ARC, ENTRY, EXIT)
 CURVES = (ARC, ENTRY, EXIT)
 # joins at the start, inside blocks, at the boundaries of blocks and on both sides of them, at the end
-JOINS = (0, 1, 7, 13, 14, 15, 28, 29, 30, 43, 44, 45, 57, 58)
-BOUNDARIES = (0, 14, 29, 44)
-PLACES = (0, 1, 14, 15, 29, 30, 44, 45, 59)
-# byte offsets in a record
-LENGTH, X, Y, C, S, RADIUS = 4, 8, 12, 16, 20, 24
-FIELDS = {0: 1, 1: 1, 2: 1, 3: 1, LENGTH: 4, X: 4, Y: 4, C: 4, S: 4, RADIUS: 4, 28: 1, 29: 1, 30: 1, 31: 1}
+STARTS = range(PER_BLOCK, MOST_RECORDS, PER_BLOCK)  # the first records of the later blocks
+JOINS = (0, 1, 7, *(start + by for start in STARTS for by in (-2, -1, 0)), MOST_RECORDS - 3, MOST_RECORDS - 2)
+BOUNDARIES = (0, *(start - 1 for start in STARTS))
+PLACES = (0, 1, *(start + by for start in STARTS for by in (-1, 0)), MOST_RECORDS - 1)
+# a record's fields and reserved bytes: their places, with their sizes
+BYTES, NUMBERS = (KIND_AT, *RESERVED), (RECORD_LENGTH_AT, X_AT, Y_AT, C_AT, S_AT, RADIUS_AT)
+FIELDS = {at: 1 if at in BYTES else 4 for at in sorted(BYTES + NUMBERS)}
 
 
 def u16(number):
@@ -38,21 +44,13 @@ def i32(number):
     return struct.pack("<i", number)
 
 
-def record_start(record):
-    return record // 15 * 512 + record % 15 * 32
-
-
-def least_radius(kind, length):
-    return 2 * length if kind == ARC else length
-
-
 # ---------------------------------------------------------------------------
 # Cases: a file and what is expected of it, a number, or None for whatever the check says
 
 
 def accepted_of_every_count(rng):
     """Two random alignments of each count, one of them with all gaps, kinks, lengths and radii at their limits."""
-    for count in range(1, 61):
+    for count in range(1, MOST_RECORDS + 1):
         for wish in Wish(count, longest=rng.choice((3, 50, 2_000))), Wish(count, longest=500, at_limit=100):
             file, _ = random_file(rng, wish)
             yield file, 0
@@ -60,22 +58,24 @@ def accepted_of_every_count(rng):
 
 def every_byte(rng):
     """Each byte of a block changed: in a full file with the sums left, in a full and in a short one with them right."""
-    full, _ = random_file(rng, Wish(60, longest=100, at_limit=0))
-    short, _ = random_file(rng, Wish(22, longest=100, at_limit=0))
+    used = 7  # records of the short file's second and last block
+    full, _ = random_file(rng, Wish(MOST_RECORDS, longest=100, at_limit=0))
+    short, _ = random_file(rng, Wish(PER_BLOCK + used, longest=100, at_limit=0))
     changes = []
-    for at in range(512):
-        place = 512 * (at % 4) + at
+    for at in range(BLOCK_SIZE):
+        place = BLOCK_SIZE * (at % MOST_BLOCKS) + at
         changes.append((patched(full, place, [changed(rng, full[place])]), 2))
-    for at in range(508):
-        place = 512 * ((at + at // 32) % 4) + at
+    for at in range(SUMS_AT):
+        place = BLOCK_SIZE * ((at + at // RECORD_SIZE) % MOST_BLOCKS) + at
         changes.append((altered(full, place, [changed(rng, full[place])]), None))
     yield from changes
-    changes = [(patched(short, 512 + at, [changed(rng, short[512 + at])]), 2) for at in range(508, 512)]
-    for at in range(508):
-        place = 512 * (at // 32 % 2 if at < 480 else at % 2) + at
+    second = [BLOCK_SIZE + at for at in range(SUMS_AT, BLOCK_SIZE)]
+    changes = [(patched(short, place, [changed(rng, short[place])]), 2) for place in second]
+    for at in range(SUMS_AT):
+        place = BLOCK_SIZE * (at // RECORD_SIZE % 2 if at < RECORDS_END else at % 2) + at
         changes.append((altered(short, place, [changed(rng, short[place])]), None))
-    for at in [*range(7 * 32, 480), *range(488, 508)]:
-        changes.append((altered(short, 512 + at, [rng.choice((1, 128, 255))]), 3))
+    for at in [*range(used * RECORD_SIZE, RECORDS_END), *BLOCK_ZEROS]:
+        changes.append((altered(short, BLOCK_SIZE + at, [rng.choice((1, 128, 255))]), 3))
     yield from changes
 
 
@@ -86,10 +86,10 @@ def changed(rng, byte):
 
 def field_damage(rng):
     """Each field of records of all kinds overwritten with extreme and random bytes, at several places."""
-    file, alignment = random_file(rng, Wish(60, longest=200, at_limit=0, gap=20))
+    file, alignment = random_file(rng, Wish(MOST_RECORDS, longest=200, at_limit=0, gap=20))
     assert {element.kind for element in alignment.elements} == set(KINDS)
     cases = []
-    for record in PLACES + (rng.randint(2, 58), rng.randint(2, 58)):
+    for record in PLACES + (rng.randint(2, MOST_RECORDS - 2), rng.randint(2, MOST_RECORDS - 2)):
         for offset, size in FIELDS.items():
             for data in (bytes(size), bytes([255]) * size, rng.randbytes(size)):
                 cases.append((altered(file, record_start(record) + offset, data), None))
@@ -98,78 +98,84 @@ def field_damage(rng):
 
 def wrong_lengths(rng):
     """Byte counts that are not 1 to 4 blocks, and those that are; with good and with damaged bytes."""
-    full = raw_file(lines(60))
+    full = raw_file(lines(MOST_RECORDS))
     beyond = full + bytes(ROOM - len(full))
-    counts = {0, 1, 2, 31, 32, 255, 256, 257, 480, 508, 2_303, 2_400, 2_559, 2_560, 2_561, 2_599, ROOM}
-    counts |= {512 * blocks + by for blocks in range(1, 6) for by in (-2, -1, 0, 1, 2, 32) if 512 * blocks + by <= ROOM}
+    counts = {0, 1, 2, RECORD_SIZE - 1, RECORD_SIZE, 255, 256, 257, RECORDS_END, SUMS_AT}
+    counts |= {2_303, 2_400, ROOM - 1, ROOM}
+    ends = [BLOCK_SIZE * blocks for blocks in range(1, MOST_BLOCKS + 2)]
+    counts |= {end + by for end in ends for by in (-2, -1, 0, 1, 2, RECORD_SIZE) if end + by <= ROOM}
     counts |= {rng.randint(3, ROOM) for _ in range(20)}
     cases = []
     for count in sorted(counts):
-        good = count in (512, 1_024, 1_536, 2_048)
+        good = count in FILE_SIZES
         cases.append((beyond[:count], 0 if good else 1))
         if count:
             damaged = patched(beyond, rng.randrange(count), [170])
             cases.append((damaged[:count], None if good else 1))
     yield from cases
     for count in sorted(counts):
-        yield bytes(count), 3 if count in (512, 1_024, 1_536, 2_048) else 1
-    for count in (512, 2_048):
+        yield bytes(count), 3 if count in FILE_SIZES else 1
+    for count in (FILE_SIZES[0], FILE_SIZES[-1]):
         yield sealed(bytes([255]) * count), 3
 
 
 def block_fields(rng):
     """Block number, use count, edition and the zero bytes of every block of files of 1 to 4 blocks."""
-    for count in (1, 15, 17, 30, 38, 45, 46, 60):
+    two, three = 2 * PER_BLOCK, 3 * PER_BLOCK
+    for count in (1, PER_BLOCK, PER_BLOCK + 2, two, two + 8, three, three + 1, MOST_RECORDS):
         file = raw_file(lines(count))
-        blocks = len(file) // 512
+        blocks = len(file) // BLOCK_SIZE
         cases = []
         for block in range(blocks):
-            at = 512 * block
+            at = BLOCK_SIZE * block
             for number in (0, 1, 2, 3, 4, 255, 256, 257, 65_535):
-                cases.append((altered(file, at + 480, u16(number)), 0 if number == block else 3))
-            used = crest.u16_at(file, at + 482)
-            for number in (0, 1, 2, 7, 14, 15, 16, 17, 255, 256, 257, 65_535):
+                cases.append((altered(file, at + FIELDS_AT, u16(number)), 0 if number == block else 3))
+            used = crest.u16_at(file, at + USED_AT)
+            full = PER_BLOCK - 1, PER_BLOCK, PER_BLOCK + 1, PER_BLOCK + 2
+            for number in (0, 1, 2, 7, *full, 255, 256, 257, 65_535):
                 # one more in a last block is in use and zero: 4
-                wanted = 0 if number == used else 4 if block == blocks - 1 and used < number <= 15 else 3
-                cases.append((altered(file, at + 482, u16(number)), wanted))
+                wanted = 0 if number == used else 4 if block == blocks - 1 and used < number <= PER_BLOCK else 3
+                cases.append((altered(file, at + USED_AT, u16(number)), wanted))
             for number in (0, 1, 2, 3, 255, 256, 257, 65_536, 65_537, 2**24 + 1, 2**31, 2**31 + 1, 2**32 - 1):
-                cases.append((altered(file, at + 484, u32(number)), 0 if number == 1 else 3))
-            for zero in rng.sample(range(488, 508), 5):
+                cases.append((altered(file, at + EDITION_AT, u32(number)), 0 if number == EDITION else 3))
+            for zero in rng.sample(BLOCK_ZEROS, 5):
                 cases.append((altered(file, at + zero, [rng.randint(1, 255)]), 3))
-            cases.append((patched(file, at + 482, u16(16)), 2))
+            cases.append((patched(file, at + USED_AT, u16(PER_BLOCK + 1)), 2))
         yield from cases
     # a block that is not the last with fewer records, its other ones zero
-    for count in (16, 31, 46):
-        file = raw_file(lines(count))
-        for block in range(count // 15):
-            for used in (0, 1, 14):
-                short = crest.block_made(records_of(lines(count)[15 * block : 15 * block + used]), block)
-                yield patched(file, 512 * block, short), 3
+    for start in STARTS:
+        row = lines(start + 1)
+        file = raw_file(row)
+        for block in range(start // PER_BLOCK):
+            for used in (0, 1, PER_BLOCK - 1):
+                first = PER_BLOCK * block
+                short = crest.block_made(records_of(row[first : first + used]), block)
+                yield patched(file, BLOCK_SIZE * block, short), 3
 
 
 def sums(rng):
     """Changes that leave A, leave B, or leave both as they were; A and B exchanged; sums past their modulus."""
-    file, _ = random_file(rng, Wish(18, longest=100))
+    file, _ = random_file(rng, Wish(PER_BLOCK + 3, longest=100))
     cases = []
     for block in range(2):
-        at = 512 * block
-        a, b = file[at + 508 : at + 510], file[at + 510 : at + 512]
-        cases.append((patched(file, at + 508, b + a), 2))
-        for by in (1, 255, 256, 65_535):
-            for place in (508, 510):
-                wrong = (crest.u16_at(file, at + place) + by) % 65_536
+        at = BLOCK_SIZE * block
+        a, b = file[at + SUMS_AT : at + SUM_B_AT], file[at + SUM_B_AT : at + BLOCK_SIZE]
+        cases.append((patched(file, at + SUMS_AT, b + a), 2))
+        for by in (1, 255, 256, SUM_MODULUS - 1):
+            for place in (SUMS_AT, SUM_B_AT):
+                wrong = (crest.u16_at(file, at + place) + by) % SUM_MODULUS
                 cases.append((patched(file, at + place, u16(wrong)), 2))
         for _ in range(10):
-            i = rng.randrange(at, at + 507)
+            i = rng.randrange(at, at + SUMS_AT - 1)
             cases.append((patched(file, i, [file[i + 1], file[i]]), 2 if file[i] != file[i + 1] else 0))
     for _ in range(200):
-        i = rng.randrange(1, 479)
+        i = rng.randrange(1, RECORDS_END - 1)
         # −1, +2, −1 side by side change neither sum; +2 at weight w and −1 at weight 2w change only A
         if min(file[i - 1], file[i + 1]) > 0 and file[i] < 254:
             both = patched(file, i - 1, [file[i - 1] - 1, file[i] + 2, file[i + 1] - 1])
             assert crest.sums(both) == crest.sums(file)
             cases.append((both, None))
-        j = 508 - 2 * (508 - i)
+        j = SUMS_AT - 2 * (SUMS_AT - i)
         if 0 <= j and file[j] > 0 and file[i] < 254:
             only = patched(patched(file, i, [file[i] + 2]), j, [file[j] - 1])
             assert crest.sums(only)[1] == crest.sums(file)[1]
@@ -177,9 +183,9 @@ def sums(rng):
     yield from cases
     high = Element(ARC, 458_751, -1, -1, -ONE + 1, -20_000, -9_961_473)  # bytes of 255 where they can be
     c, s = random_crests.unit(high.c, high.s)
-    row = [high._replace(c=c, s=s)] * 15
+    row = [high._replace(c=c, s=s)] * PER_BLOCK
     yield raw_file(row), None
-    yield altered(raw_file(row), 0, bytes([255]) * 508), 3
+    yield altered(raw_file(row), 0, bytes([255]) * SUMS_AT), 3
 
 
 def ranges(rng):
@@ -190,10 +196,11 @@ def ranges(rng):
         cases.append((raw_file([element]), wanted))
 
     for kind in KINDS:
-        for length in (0, 1, 2, LONGEST - 1, LONGEST, LONGEST + 1, 2**24, 2**31 - 1, 2**31, 2**32 - 1):
+        limits = LONGEST_ELEMENT - 1, LONGEST_ELEMENT, LONGEST_ELEMENT + 1
+        for length in (0, 1, 2, *limits, 2**24, 2**31 - 1, 2**31, 2**32 - 1):
             radius = 0 if kind == LINE else min(max(1, least_radius(kind, length)), WIDEST)
             for sign in (1, -1):
-                case(Element(kind, length, 0, 0, ONE, 0, sign * radius), 0 if 1 <= length <= LONGEST else 6)
+                case(Element(kind, length, 0, 0, ONE, 0, sign * radius), 0 if 1 <= length <= LONGEST_ELEMENT else 6)
         radius = 0 if kind == LINE else 1_000
         for edge in (FRAME - 1, FRAME, FRAME + 1, 2**30, 2**31 - 1):
             for sign in (1, -1):
@@ -208,7 +215,7 @@ def ranges(rng):
             case(Element(LINE, 50, 0, 0, ONE, 0, sign * radius), 6 if radius else 0)
     case(Element(LINE, 50, 0, 0, ONE, 0, -(2**31)), 6)
     for kind in CURVES:
-        for length in (1, 2, 77, 32_768, LONGEST - 1, LONGEST):
+        for length in (1, 2, 77, 32_768, LONGEST_ELEMENT - 1, LONGEST_ELEMENT):
             least = least_radius(kind, length)
             for size in (0, length - 1, length, length + 1, 2 * length - 1, 2 * length, 2 * length + 1):
                 for sign in (1, -1):
@@ -222,26 +229,27 @@ def ranges(rng):
 
 def later_ranges(rng):
     """The same limits in later records: beyond them anywhere, on them in the last record."""
-    for count in (2, 15, 16, 31, 46, 60):
+    for count in (2, PER_BLOCK, *(start + 1 for start in STARTS), MOST_RECORDS):
         elements = random_elements(rng, Wish(count, longest=40, gap=0, kink=0, middle=(0, 0)))
         file = raw_file(elements)
         cases = []
         for record in sorted({0, count // 2, count - 1}):
             at = record_start(record)
-            for length in (0, LONGEST + 1):
-                cases.append((altered(file, at + LENGTH, u32(length)), 6))
+            for length in (0, LONGEST_ELEMENT + 1):
+                cases.append((altered(file, at + RECORD_LENGTH_AT, u32(length)), 6))
             for edge in (FRAME + 1, -FRAME - 1):
-                cases.append((altered(file, at + X, i32(edge)), 6))
-                cases.append((altered(file, at + Y, i32(edge)), 6))
+                cases.append((altered(file, at + X_AT, i32(edge)), 6))
+                cases.append((altered(file, at + Y_AT, i32(edge)), 6))
             element = elements[record]
             wrong = least_radius(element.kind, element.length) - 1 if element.kind != LINE else 1
             for sign in (1, -1):
-                cases.append((altered(file, at + RADIUS, i32(sign * wrong)), 6))
+                cases.append((altered(file, at + RADIUS_AT, i32(sign * wrong)), 6))
         end = crest.position(elements[-2], elements[-2].length)
         tangent = crest.direction(elements[-2], elements[-2].length)
+        longest = LONGEST_ELEMENT
         for kind, length, radius in (
-            (LINE, 1, 0), (LINE, LONGEST, 0), (ARC, 1, 2), (ARC, LONGEST, -2 * LONGEST), (ENTRY, 1, -1),
-            (ENTRY, LONGEST, LONGEST), (EXIT, 1, 1), (ARC, 9, WIDEST), (ENTRY, 9, -WIDEST), (EXIT, 9, WIDEST),
+            (LINE, 1, 0), (LINE, longest, 0), (ARC, 1, 2), (ARC, longest, -2 * longest), (ENTRY, 1, -1),
+            (ENTRY, longest, longest), (EXIT, 1, 1), (ARC, 9, WIDEST), (ENTRY, 9, -WIDEST), (EXIT, 9, WIDEST),
         ):  # fmt: skip
             last = random_crests.next_element(rng, Wish(), kind, length, radius, end, tangent, True)
             if last is not None and crest.join_fault(elements[-2], last) == 0:
@@ -257,10 +265,10 @@ def units(rng):
     pairs += [((0, 0), 7), ((1, 1), 7), ((2**31 - 1, 0), 7), ((2**31 - 1, 2**31 - 1), 7), ((ONE, ONE), 7)]
     for _ in range(20):  # one unit of one component across the limit, in any direction
         c, s = random_crests.random_unit(rng)
-        for limit in (2**60 + 2**31, 2**60 - 2**31):
+        for limit in (UNIT_SQUARE + UNIT_SLACK, UNIT_SQUARE - UNIT_SLACK):
             if c * c < limit:
                 edge = isqrt(limit - c * c)
-                top = limit > 2**60
+                top = limit > UNIT_SQUARE
                 pairs += [((c, edge), 0 if top else 7), ((c, edge + 1), 7 if top else 0)]
     cases = []
     for (c, s), wanted in pairs:
@@ -269,18 +277,18 @@ def units(rng):
     for c, s in ((-(2**31), 0), (0, -(2**31)), (-(2**31), -(2**31)), (-(2**31), 2**31 - 1), (-(2**31), ONE)):
         cases.append((raw_file([line(c=c, s=s)]), 7))
     yield from cases
-    file = raw_file(lines(60))
+    file = raw_file(lines(MOST_RECORDS))
     cases = []
     for record in PLACES:
         at = record_start(record)
-        cases += [(altered(file, at + C, i32(c) + i32(0)), wanted) for c, wanted in ((ONE + 1, 7), (ONE - 1, 0))]
-        cases += [(altered(file, at + C, i32(0) + i32(s)), 7) for s in (0, 1)]
+        cases += [(altered(file, at + C_AT, i32(c) + i32(0)), wanted) for c, wanted in ((ONE + 1, 7), (ONE - 1, 0))]
+        cases += [(altered(file, at + C_AT, i32(0) + i32(s)), 7) for s in (0, 1)]
     yield from cases
 
 
 def kinds(rng):
     """Every kind byte in the first record; damaged and later kinds and reserved bytes at other places."""
-    file = raw_file(lines(60))
+    file = raw_file(lines(MOST_RECORDS))
 
     def number(kind):
         return 0 if kind == LINE else 6 if kind in CURVES else 5 if 5 <= kind <= 15 else 4
@@ -293,7 +301,7 @@ def kinds(rng):
         cases += [(altered(file, at, [kind]), number(kind)) for kind in (0, 2, 3, 4, 5, 10, 15, 16, 17, 128, 255)]
     for record in PLACES:
         at = record_start(record)
-        for byte in (1, 2, 3, 28, 29, 30, 31):
+        for byte in RESERVED:
             cases.append((altered(file, at + byte, [rng.choice((1, 2, 128, 255))]), 4))
         # the kind is decided first, then the reserved bytes
         cases.append((altered(file, at, [rng.randint(5, 15), 1, 1, 1]), 5))
@@ -305,26 +313,28 @@ def straight_joins(rng):
     """A line out of its place or direction by exactly the limit and by one more, along each axis."""
     for along, joins in zip(AXES, (JOINS, BOUNDARIES, BOUNDARIES, BOUNDARIES)):
         c, s = along
-        row = [line(x=1_000 * i * c // ONE, y=1_000 * i * s // ONE, c=c, s=s) for i in range(60)]
+        step = 10 * GRAINS  # lines of 10 mm
+        row = [line(x=step * i * c // ONE, y=step * i * s // ONE, c=c, s=s) for i in range(MOST_RECORDS)]
         file = raw_file(row)
         cases = []
         for join in joins:
             at = record_start(join + 1)
             x, y = row[join + 1].x, row[join + 1].y
-            for dx, dy in corners(GAP_LIMIT):
-                cases.append((altered(file, at + X, i32(x + dx) + i32(y + dy)), gap_number(dx, dy)))
-            for size in (KINK_LIMIT, KINK_LIMIT + 1):
+            for dx, dy in corners(WIDEST_GAP):
+                cases.append((altered(file, at + X_AT, i32(x + dx) + i32(y + dy)), gap_number(dx, dy)))
+            for size in (WIDEST_KINK, WIDEST_KINK + 1):
                 for sign in (1, -1):
-                    other = isqrt(2**60 - size * size)
+                    other = isqrt(UNIT_SQUARE - size * size)
                     if s == 0:
                         bent = (c // ONE * other, sign * size)
                     else:
                         bent = (sign * size, s // ONE * other)
-                    wanted = 9 if size > KINK_LIMIT else 0
-                    cases.append((altered(file, at + C, i32(bent[0]) + i32(bent[1])), wanted))
+                    wanted = 9 if size > WIDEST_KINK else 0
+                    cases.append((altered(file, at + C_AT, i32(bent[0]) + i32(bent[1])), wanted))
             bent = (c // ONE * other, 2 * size) if s == 0 else (2 * size, s // ONE * other)
             # both: 8 before 9; a kink at an earlier join before a gap at a later one
-            cases.append((altered(file, at + X, i32(x + 101) + i32(y) + i32(bent[0]) + i32(bent[1])), None))
+            away = i32(x + WIDEST_GAP + 1) + i32(y)
+            cases.append((altered(file, at + X_AT, away + i32(bent[0]) + i32(bent[1])), None))
         yield from cases
 
 
@@ -335,27 +345,27 @@ def corners(limit):
 
 
 def gap_number(dx, dy):
-    return 8 if max(abs(dx), abs(dy)) > GAP_LIMIT else 0
+    return 8 if max(abs(dx), abs(dy)) > WIDEST_GAP else 0
 
 
 def curved_joins(rng):
     """The same after and before curves of all kinds, at the last join, at the boundaries of blocks too."""
-    for count in (2, 3, 8, 16, 16, 31, 31, 46, 46, 60):
+    for count in (2, 3, 8, *(start + 1 for start in STARTS for _ in range(2)), MOST_RECORDS):
         elements = random_elements(rng, Wish(count, longest=60, gap=0, kink=0, middle=(0, 0)))
         file = raw_file(elements)
         earlier, last = elements[-2:]
         end, tangent = crest.position(earlier, earlier.length), crest.direction(earlier, earlier.length)
         cases = []
-        for dx, dy in corners(GAP_LIMIT):
+        for dx, dy in corners(WIDEST_GAP):
             moved = last._replace(x=last.x + dx, y=last.y + dy)
             cases.append((raw_file(elements[:-1] + [moved]), gap_number(dx, dy)))
-        for size in (KINK_LIMIT, KINK_LIMIT + 1):
+        for size in (WIDEST_KINK, WIDEST_KINK + 1):
             for by in (size, -size):
                 bent = kinked_exactly(last, tangent, by)
                 if bent is not None:
                     bent = random_crests.anchored(bent, end)
-                    cases.append((raw_file(elements[:-1] + [bent]), 9 if size > KINK_LIMIT else 0))
-                    away = bent._replace(x=bent.x + 101)
+                    cases.append((raw_file(elements[:-1] + [bent]), 9 if size > WIDEST_KINK else 0))
+                    away = bent._replace(x=bent.x + WIDEST_GAP + 1)
                     cases.append((raw_file(elements[:-1] + [away]), 8))
         yield from cases
 
@@ -366,14 +376,14 @@ def kinked_exactly(element, tangent, by):
     wanted = [0, 0]
     wanted[across] = tangent[across] + by
     sign = 1 if tangent[1 - across] > 0 else -1
-    wanted[1 - across] = sign * isqrt(2**60 - wanted[across] ** 2)
+    wanted[1 - across] = sign * isqrt(UNIT_SQUARE - wanted[across] ** 2)
     aim = tuple(wanted)
     for _ in range(30):
         c, s = random_crests.direction_fitting(element, aim)
         turned = element._replace(c=c, s=s)
         found = crest.direction(turned, 0)
         if found[across] == wanted[across] and crest.is_unit(c, s):
-            return turned if abs(found[1 - across] - tangent[1 - across]) <= KINK_LIMIT else None
+            return turned if abs(found[1 - across] - tangent[1 - across]) <= WIDEST_KINK else None
         aim = tuple(a + w - f for a, w, f in zip(aim, wanted, found))
     return None
 
@@ -384,34 +394,41 @@ def kinked_exactly(element, tangent, by):
 
 def faults(rng, file, number, record):
     """(changes to be sealed, changes after that, length) that make a fault of that number at a record or its block."""
-    block = record // 15
-    at, head = record_start(record), 512 * block
+    block = record // PER_BLOCK
+    at, head = record_start(record), BLOCK_SIZE * block
     later = record_start(record + 1)
     if number == 1:
-        return [], [], len(file) + rng.choice((-1, 1, -512 * 3 - 1, 512 if len(file) == 2_048 else 31))
+        more = BLOCK_SIZE if len(file) == FILE_SIZES[-1] else RECORD_SIZE - 1
+        return [], [], len(file) + rng.choice((-1, 1, -BLOCK_SIZE * 3 - 1, more))
     if number == 2:
-        i = head + rng.randrange(512)
+        i = head + rng.randrange(BLOCK_SIZE)
         return [], [(i, [changed(rng, file[i])])], None
     if number == 3:
-        wrong = (480, u16(block + 1)), (482, u16(16)), (484, u32(2)), (rng.randrange(488, 508), [1]), (482, u16(0))
-        place, data = rng.choice(wrong)
+        place, data = rng.choice((
+            (FIELDS_AT, u16(block + 1)), (USED_AT, u16(PER_BLOCK + 1)), (EDITION_AT, u32(EDITION + 1)),
+            (rng.choice(BLOCK_ZEROS), [1]), (USED_AT, u16(0)),
+        ))  # fmt: skip
         return [(head + place, data)], [], None
     if number == 4:
-        place, data = rng.choice(((0, [0]), (0, [rng.randint(16, 255)]), (rng.choice((1, 2, 3)), [9]), (28, [1])))
+        place, data = rng.choice((
+            (KIND_AT, [0]), (KIND_AT, [rng.randint(16, 255)]),
+            (rng.choice(range(FIRST_ZEROS_AT, RECORD_LENGTH_AT)), [9]), (LAST_ZEROS_AT, [1]),
+        ))  # fmt: skip
         return [(at + place, data)], [], None
     if number == 5:
         return [(at, [rng.randint(5, 15)])], [], None
     if number == 6:
-        wrong = (LENGTH, u32(0)), (LENGTH, u32(LONGEST + 1)), (X, i32(-FRAME - 1)), (Y, i32(FRAME + 1))
-        place, data = rng.choice((*wrong, (RADIUS, i32(1))))
+        lengths = (RECORD_LENGTH_AT, u32(0)), (RECORD_LENGTH_AT, u32(LONGEST_ELEMENT + 1))
+        places = (X_AT, i32(-FRAME - 1)), (Y_AT, i32(FRAME + 1))
+        place, data = rng.choice((*lengths, *places, (RADIUS_AT, i32(1))))
         return [(at + place, data)], [], None
     if number == 7:
-        place, number = rng.choice(((C, 5), (C, ONE + 1), (S, 50_000), (S, -ONE)))
+        place, number = rng.choice(((C_AT, 5), (C_AT, ONE + 1), (S_AT, 50_000), (S_AT, -ONE)))
         return [(at + place, i32(number))], [], None
     if number == 8:
-        return [(later + Y, i32(rng.choice((101, -101, 150_000))))], [], None
-    bent = isqrt(2**60 - 1_000_001**2)
-    return [(later + C, i32(bent) + i32(rng.choice((1_000_001, -1_000_001))))], [], None
+        return [(later + Y_AT, i32(rng.choice((WIDEST_GAP + 1, -WIDEST_GAP - 1, 150_000))))], [], None
+    kink = WIDEST_KINK + 1
+    return [(later + C_AT, i32(isqrt(UNIT_SQUARE - kink**2)) + i32(rng.choice((kink, -kink))))], [], None
 
 
 def overlap(changes):
@@ -424,15 +441,20 @@ def two_faults(rng):
 
     1 to 3 come before all that follow, and the records' 4 to 7 before the joins' 8 and 9, wherever they are.
     """
-    for count in (60, 48):
+    last, first = PER_BLOCK - 1, PER_BLOCK  # on both sides of a boundary of blocks
+    for count in (MOST_RECORDS, 48):
         file = raw_file(lines(count))
         cases = []
         for one in range(1, 10):
             for two in range(one, 10):
-                for places in ((3, 20), (20, 3), (17, 17), (14, 15), (15, 14), (29, 46), (46, 29), (8, 9), (9, 8)):
+                for places in (
+                    (3, 20), (20, 3), (17, 17), (last, first), (first, last), (29, 46), (46, 29), (8, 9), (9, 8),
+                ):  # fmt: skip
                     damaged = with_both(rng, file, (one, two), places)
+                    # c and s of one record, both wrong, can be a unit again
+                    same = one == two and (one != 7 or places[0] != places[1])
                     if damaged is not None:
-                        cases.append((damaged, one if one <= 3 or one <= 7 < two or one == two else None))
+                        cases.append((damaged, one if one <= 3 or one <= 7 < two or same else None))
         yield from cases
 
 
@@ -459,7 +481,7 @@ def with_both(rng, file, numbers, places):
 
 def random_damage(rng):
     """One to four bytes anywhere, with the sums right again or not."""
-    for count in (5, 19, 33, 60):
+    for count in (5, 19, 33, MOST_RECORDS):
         file, _ = random_file(rng, Wish(count, longest=300))
         cases = []
         for number in range(60):

@@ -5,8 +5,9 @@ what the reference gives for it. They are written as tables whose equality is pr
 of the repository's crates in a temporary folder, and checked there. Then a false table for each table
 is checked, made by exchanging two expected values, which has to be refused.
 
-definition_cases.py [FOLDER] uses FOLDER, which must not exist yet, and keeps it. Exit status 1 where the
-checker refuses a table, or accepts a false one.
+definition_cases.py [--part] [FOLDER] uses FOLDER, which must not exist yet, and keeps it. With --part only a
+part of the cases is checked, always the same: of each table whose cases are dear, every third; and all false
+tables. Exit status 1 where the checker refuses a table, or accepts a false one.
 """
 
 import math
@@ -26,11 +27,18 @@ sys.dont_write_bytecode = True
 
 import crest
 import random_crests
-from crest import ARC, ENTRY, EXIT, FRAME, LINE, ONE, Element, Refusal
-from random_crests import Wish
+from crest import (
+    ARC, BLOCK_SIZE, BLOCK_ZEROS, C_AT, EDITION, EDITION_AT, ENTRY, EXIT, FIELDS_AT, FILE_SIZES, FIRST_STEP, FRAME,
+    GRAINS, KIND_AT, LAST_NUMBER, LINE, LONGEST_ALIGNMENT, LONGEST_ELEMENT, MOST_BLOCKS, MOST_COUNTED, MOST_RECORDS,
+    MOVE_SIZE, ONE, PAST_END, PER_BLOCK, PLACE_UNIT, RADIUS_AT, READING_SIZE, RECORD_LENGTH_AT, RECORD_SIZE,
+    RECORDS_END, RESERVED, ROOT_SLACK, RUN_SIZE, STEP_DIVISOR, SUMS_AT, UNIT_SQUARE, USED_AT, WIDEST,
+    WIDEST_GAP, WIDEST_KINK, WIDEST_OFFSET, X_AT, Y_AT, Element, Refusal, blocks_needed, least_radius,
+)  # fmt: skip
+from random_crests import FAR, Wish
 
 SEED = 20_01
 FEWEST = 200  # cases for each chapter
+DEAR = 10  # a table with so few cases in a declaration takes long
 ROOT = Path(__file__).resolve().parent.parent
 CRATE = "model"
 
@@ -40,6 +48,8 @@ CRATE = "model"
 KINDS = {LINE: "Line", ARC: "Arc", ENTRY: "EntrySpiral", EXIT: "ExitSpiral"}
 SHAPES = {LINE: "Straight", ARC: "Circular", ENTRY: "Clothoid", EXIT: "Clothoid"}
 I32 = (-(2**31), -(2**31) + 1, -1, 0, 1, 2**31 - 2, 2**31 - 1)
+U16 = 2**16 - 1
+MOST_OFFSET = FAR + 424  # grains: at the tight end of a curve an answered offset passes FAR
 
 
 def whole(n):
@@ -306,27 +316,24 @@ def rounding(rng):
 # ---------------------------------------------------------------------------
 # 2 Records
 
-# Document 01's numbers under the names that the definitions give them, by module.
+# The numbers that the definitions name, by module; the reference has them under the same names.
 NAMED_NUMBERS = {
-    "Records": {
-        **{"blockSize": 512, "recordSize": 32, "perBlock": 15, "recordsEnd": 480, "mostRecords": 60},
-        **{"fieldsAt": 480, "usedAt": 482, "editionAt": 484, "edition": 1, "zerosAt": 488, "zeroCount": 20},
-        **{"sumsAt": 508, "sumBAt": 510, "sumModulus": 65_536},
-        **{"kindAt": 0, "firstZerosAt": 1, "firstZeroCount": 3, "recordLengthAt": 4, "xAt": 8, "yAt": 12},
-        **{"cAt": 16, "sAt": 20, "radiusAt": 24, "lastZerosAt": 28, "lastZeroCount": 4},
-    },
-    "Acceptance": {
-        **{"longestElement": 500_000, "frame": 200_000_000, "widest": 10_000_000},
-        **{"unitSlack": 2**31, "widestGap": 100, "widestKink": 1_000_000},
-    },
-    "Answers": {"farthest": 400_000_000_000_000, "pastEnd": 100, "widestOffset": 20_000_000},
-    "Run": {
-        **{"mostCounted": 65_535, "runSize": 24, "answeredAt": 0, "refusedAt": 2, "latestAt": 4, "firstAt": 6},
-        **{"firstReadingAt": 8, "oneAt": 12, "twoAt": 16, "threeAt": 20},
-    },
-    "Calls": {"moveSize": 8, "forwardAt": 0, "leftAt": 4},
-    "Refusals": {"lastNumber": 18},
+    "Records": """
+        blockSize recordSize perBlock recordsEnd mostRecords fieldsAt usedAt editionAt edition zerosAt zeroCount
+        sumsAt sumBAt sumModulus kindAt firstZerosAt firstZeroCount recordLengthAt xAt yAt cAt sAt radiusAt lastZerosAt
+        lastZeroCount""",
+    "Acceptance": "longestElement frame widest unitSlack widestGap widestKink",
+    "Answers": "farthest pastEnd widestOffset",
+    "Run": """
+        mostCounted runSize answeredAt refusedAt latestAt firstAt firstReadingAt oneAt twoAt threeAt""",
+    "Calls": "moveSize forwardAt leftAt",
+    "Refusals": "lastNumber",
 }
+
+
+def number_named(name):
+    """The reference's number of the definitions' name: WIDEST_GAP of widestGap."""
+    return getattr(crest, re.sub("([A-Z])", r"_\1", name).upper())
 
 
 def records(rng):
@@ -344,9 +351,11 @@ def records(rng):
     def twos_complement(part):
         return whole(int.from_bytes(part, "little", signed=True))
 
-    blocks = [bytes(512), bytes([255]) * 512, bytes([255]) * 508 + bytes(4)]
-    blocks += [random_bytes(rng, 512) for _ in range(57)]
-    blocks += [crest.block_made(rng.randbytes(32 * rng.randint(1, 15)), rng.randrange(4)) for _ in range(20)]
+    blocks = [bytes(BLOCK_SIZE), bytes([255]) * BLOCK_SIZE, bytes([255]) * SUMS_AT + bytes(BLOCK_SIZE - SUMS_AT)]
+    blocks += [random_bytes(rng, BLOCK_SIZE) for _ in range(57)]
+    for _ in range(20):
+        held = rng.randbytes(RECORD_SIZE * rng.randint(1, PER_BLOCK))
+        blocks.append(crest.block_made(held, rng.randrange(MOST_BLOCKS)))
     parts, puts = [], []
     for _ in range(40):
         data = rng.randbytes(rng.randint(0, 60))
@@ -366,22 +375,24 @@ def records(rng):
         zeros.append(Case(f"allZero {spelt(data)}", truth(not any(data))))
     used = []
     for number in range(32):
-        count = number % 4 + 1
-        file = b"".join(
-            data[:482] + struct.pack("<H", rng.choice((0, 1, 14, 15, rng.randint(0, 15)))) + data[484:]
-            for data in (rng.randbytes(512) for _ in range(count))
-        )
+        count = number % MOST_BLOCKS + 1
+        file = b""
+        for _ in range(count):
+            data = rng.randbytes(BLOCK_SIZE)
+            used_here = rng.choice((0, 1, PER_BLOCK - 1, PER_BLOCK, rng.randint(0, PER_BLOCK)))
+            file += data[:USED_AT] + struct.pack("<H", used_here) + data[USED_AT + 2 :]
         used.append(Case(f"recordBytes {spelt(file)}", spelt(crest.used_records(crest.blocks_of(file)))))
-    file, _ = crest_file(rng, 60)
-    starts = [Case(f"recordStart {r}", str(crest.read_record(file, r).start)) for r in range(60)]
-    u16s = [0, 1, 255, 256, 65_280, 65_535, *(spread(rng, 65_535) for _ in range(34))]
+    file, _ = crest_file(rng, MOST_RECORDS)
+    starts = [Case(f"recordStart {r}", str(crest.read_record(file, r).start)) for r in range(MOST_RECORDS)]
+    u16s = [0, 1, 255, 256, 65_280, U16, *(spread(rng, U16) for _ in range(34))]
     u32s = [0, 1, 255, 256, 65_536, 2**31 - 1, 2**31, 2**32 - 1, *(spread(rng, 2**32 - 1) for _ in range(52))]
     i32s = [*I32, -(2**24), -65_536, -256, -255, 255, 256, *(signed(rng, 2**31 - 1) for _ in range(40))]
     u16_out = [Case(f"u16Bytes {n}", naturals(struct.pack("<H", n))) for n in u16s]
     u32_out = [Case(f"u32Bytes {n}", naturals(struct.pack("<I", n))) for n in u32s]
     i32_out = [Case(f"i32Bytes {whole(n)}", naturals(struct.pack("<i", n))) for n in i32s]
-    plain = [random_bytes(rng, count) for count in (0, 1, 2, 3, 24, 32, 33, 512)]
-    named = [Case(name, str(number)) for numbers in NAMED_NUMBERS.values() for name, number in numbers.items()]
+    sizes = 0, 1, 2, 3, RUN_SIZE, RECORD_SIZE, RECORD_SIZE + 1, BLOCK_SIZE
+    plain = [random_bytes(rng, count) for count in sizes]
+    named = [Case(name, str(number_named(name))) for names in NAMED_NUMBERS.values() for name in names.split()]
     tables = [
         Table("bytes-spelt", "List ℕ", "part", [Case(spelt(data), naturals(data)) for data in plain]),
         Table("u16-read", "ℕ", "part", field("u16At", 2, unsigned)),
@@ -402,7 +413,7 @@ def records(rng):
     fields = "u16At, u32At, i32At, u16Bytes, u32Bytes, i32Bytes, part, field, putAll"
     uses = (
         f"Records.{{{fields}, allZero, sumA, sumB, recordBytes, recordStart}}",
-        *(f"{module}.{{{', '.join(numbers)}}}" for module, numbers in NAMED_NUMBERS.items()),
+        *(f"{module}.{{{', '.join(names.split())}}}" for module, names in NAMED_NUMBERS.items()),
     )
     return Chapter(2, "Records", uses, tables)
 
@@ -411,27 +422,22 @@ def records(rng):
 # 3 Acceptance
 
 
-def with_sums(body):
-    """A block of 508 bytes with right sums."""
-    return bytes(body) + struct.pack("<HH", *crest.sums(body))
-
-
 def changed(file, at, data):
     """The file with other bytes at a place, and right sums again in that block."""
     file = bytearray(file)
     file[at : at + len(data)] = data
-    block = at // 512
-    file[512 * block : 512 * block + 512] = with_sums(file[512 * block : 512 * block + 508])
+    start = at // BLOCK_SIZE * BLOCK_SIZE
+    file[start : start + BLOCK_SIZE] = crest.with_sums(file[start : start + BLOCK_SIZE])
     return bytes(file)
 
 
 def record_at(file, record):
-    part = 512 * (record // 15) + 32 * (record % 15)
-    return part, crest.element_of(file[part : part + 32])
+    part = crest.record_start(record)
+    return part, crest.element_of(file[part : part + RECORD_SIZE])
 
 
 def record_count(file):
-    return sum(crest.u16_at(block, 482) for block in crest.blocks_of(file))
+    return sum(map(crest.used_in, crest.blocks_of(file)))
 
 
 def some_record(rng, file):
@@ -439,85 +445,90 @@ def some_record(rng, file):
 
 
 def some_block(rng, file):
-    return rng.randrange(len(file) // 512)
+    return rng.randrange(len(file) // BLOCK_SIZE)
 
 
 def wrong_length(rng, file):
-    wrong = rng.choice((0, 1, 32, 256, 508, 511, 513, 767, 1023, 1025, 1535, 1537, 2047, 2049, 2560))
-    return (file * 5)[:wrong]
+    beside = [size + by for size in FILE_SIZES for by in (-1, 1)]
+    wrong = 0, 1, RECORD_SIZE, 256, SUMS_AT, *beside[:2], 767, *beside[2:], FILE_SIZES[-1] + BLOCK_SIZE
+    return (file * 5)[: rng.choice(wrong)]
 
 
 def wrong_sum(rng, file):
     """One byte, two bytes that keep A, two bytes that keep B, or a stored sum."""
     file = bytearray(file)
-    start = 512 * some_block(rng, file)
-    block = file[start : start + 512]
+    start = BLOCK_SIZE * some_block(rng, file)
+    block = file[start : start + BLOCK_SIZE]
     choice = rng.randrange(5)
     if choice == 0:
-        at = rng.randrange(508)
+        at = rng.randrange(SUMS_AT)
         block[at] = (block[at] + rng.randint(1, 255)) % 256
     elif choice == 1:
-        at = rng.choice([i for i in range(507) if block[i] < 255 and block[i + 1] != block[i] + 1])
+        at = rng.choice([i for i in range(SUMS_AT - 1) if block[i] < 255 and block[i + 1] != block[i] + 1])
         block[at], block[at + 1] = block[at + 1], block[at]
         if block[at] == block[at + 1]:
             block[at], block[at + 1] = block[at] + 1, (block[at + 1] - 1) % 256
     elif choice == 2:  # weights 2n and n: one down, two up
-        free = [i for i in range(0, 506, 2) if block[i] > 0 and block[508 - (508 - i) // 2] < 254]
+        end = SUMS_AT
+        free = [i for i in range(0, end - 2, 2) if block[i] > 0 and block[end - (end - i) // 2] < 254]
         at = rng.choice(free)
         block[at] -= 1
-        block[508 - (508 - at) // 2] += 2
+        block[end - (end - at) // 2] += 2
     else:
-        at = rng.choice((508, 509, 510, 511))
+        at = rng.choice(range(SUMS_AT, BLOCK_SIZE))
         block[at] ^= 1 << rng.randrange(8)
-    file[start : start + 512] = block
+    file[start : start + BLOCK_SIZE] = block
     return bytes(file)
 
 
 def wrong_field(rng, file):
     number = some_block(rng, file)
-    start = 512 * number
-    last = start + 512 == len(file)
-    used = crest.u16_at(file, start + 482)
+    start = BLOCK_SIZE * number
+    last = start + BLOCK_SIZE == len(file)
+    used = crest.u16_at(file, start + USED_AT)
     choice = rng.randrange(6)
     if choice == 0:
-        return changed(file, start + 480, struct.pack("<H", rng.choice((number + 1, number + 256, 65_535))))
+        return changed(file, start + FIELDS_AT, struct.pack("<H", rng.choice((number + 1, number + 256, U16))))
     if choice == 1:
-        wrong = (0, 16, 256, 65_535) if last else (0, 1, 14, 16)
-        return changed(file, start + 482, struct.pack("<H", rng.choice(wrong)))
+        wrong = (0, PER_BLOCK + 1, 256, U16) if last else (0, 1, PER_BLOCK - 1, PER_BLOCK + 1)
+        return changed(file, start + USED_AT, struct.pack("<H", rng.choice(wrong)))
     if choice == 2:
-        return changed(file, start + 484, struct.pack("<I", rng.choice((0, 2, 257, 2**24 + 1, 2**32 - 1))))
-    if choice == 3 and used < 15:
-        return changed(file, start + rng.choice((32 * used, 479)), b"\x01")
+        wrong = 0, EDITION + 1, EDITION + 256, EDITION + 2**24, 2**32 - 1
+        return changed(file, start + EDITION_AT, struct.pack("<I", rng.choice(wrong)))
+    if choice == 3 and used < PER_BLOCK:
+        return changed(file, start + rng.choice((RECORD_SIZE * used, RECORDS_END - 1)), b"\x01")
     if choice == 4 and used > 1 and last:  # a use count one too small
-        return changed(file, start + 482, struct.pack("<H", used - 1))
-    return changed(file, start + rng.choice((488, 507, rng.randint(488, 507))), bytes([rng.randint(1, 255)]))
+        return changed(file, start + USED_AT, struct.pack("<H", used - 1))
+    zero = rng.choice((BLOCK_ZEROS[0], BLOCK_ZEROS[-1], rng.choice(BLOCK_ZEROS)))
+    return changed(file, start + zero, bytes([rng.randint(1, 255)]))
 
 
 def damaged_record(rng, file):
     at, _ = record_at(file, some_record(rng, file))
     if rng.randrange(2):
-        return changed(file, at, bytes([rng.choice((0, 16, 17, 128, 255, rng.randint(16, 255)))]))
-    return changed(file, at + rng.choice((1, 2, 3, 28, 29, 30, 31)), bytes([rng.randint(1, 255)]))
+        return changed(file, at + KIND_AT, bytes([rng.choice((0, 16, 17, 128, 255, rng.randint(16, 255)))]))
+    return changed(file, at + rng.choice(RESERVED), bytes([rng.randint(1, 255)]))
 
 
 def later_kind(rng, file):
     at, _ = record_at(file, some_record(rng, file))
-    return changed(file, at, bytes([rng.randint(5, 15)]))
+    return changed(file, at + KIND_AT, bytes([rng.randint(5, 15)]))
 
 
 def out_of_range(rng, file):
     at, element = record_at(file, some_record(rng, file))
     choice = rng.randrange(4)
     if choice == 0:
-        return changed(file, at + 4, struct.pack("<I", rng.choice((0, 500_001, 2**31, 2**32 - 1))))
+        wrong = 0, LONGEST_ELEMENT + 1, 2**31, 2**32 - 1
+        return changed(file, at + RECORD_LENGTH_AT, struct.pack("<I", rng.choice(wrong)))
     if choice == 1:
         far = rng.choice((-1, 1)) * rng.choice((FRAME + 1, 2**31 - 1))
-        return changed(file, at + rng.choice((8, 12)), struct.pack("<i", far))
+        return changed(file, at + rng.choice((X_AT, Y_AT)), struct.pack("<i", far))
     if choice == 2:
-        return changed(file, at + rng.choice((8, 12)), struct.pack("<i", -(2**31)))
-    least = {LINE: 0, ARC: 2 * element.length, ENTRY: element.length, EXIT: element.length}[element.kind]
-    size = 1 if element.kind == LINE else rng.choice((0, least - 1, 10_000_001, 2**31 - 1))
-    return changed(file, at + 24, struct.pack("<i", rng.choice((-size, size))))
+        return changed(file, at + rng.choice((X_AT, Y_AT)), struct.pack("<i", -(2**31)))
+    least = least_radius(element.kind, element.length)
+    size = 1 if element.kind == LINE else rng.choice((0, least - 1, WIDEST + 1, 2**31 - 1))
+    return changed(file, at + RADIUS_AT, struct.pack("<i", rng.choice((-size, size))))
 
 
 def not_unit(rng, file):
@@ -525,14 +536,15 @@ def not_unit(rng, file):
     _, above, _, below = UNIT_LIMITS
     slip = element.c, element.s ^ 4096
     pair = rng.choice((above, below, (0, 0), (ONE, ONE), (2**31 - 1, -(2**31)), slip))
-    return changed(file, at + 16, struct.pack("<ii", *pair))
+    return changed(file, at + C_AT, struct.pack("<ii", *pair))
 
 
 def moved_join(rng, file):
     record = rng.randrange(max(1, record_count(file) - 1))
     at, element = record_at(file, record)
-    by = rng.choice((-1, 1)) * rng.choice((100, 101, 102, 201, 100_000))
-    field, n = rng.choice(((8, element.x), (12, element.y)))
+    limits = WIDEST_GAP, WIDEST_GAP + 1, WIDEST_GAP + 2, 2 * WIDEST_GAP + 1
+    by = rng.choice((-1, 1)) * rng.choice((*limits, 100_000))
+    field, n = rng.choice(((X_AT, element.x), (Y_AT, element.y)))
     return changed(file, at + field, struct.pack("<i", max(-(2**31), min(2**31 - 1, n + by))))
 
 
@@ -541,7 +553,8 @@ def bent_join(rng, file):
     count = record_count(file)
     record = rng.choice((count - 1, count - 1, rng.randrange(count)))
     at, element = record_at(file, record)
-    by = rng.choice((-1, 1)) * rng.choice((999_000, 1_001_000, 3_000_000, 10_000_000))
+    limits = WIDEST_KINK - 1_000, WIDEST_KINK + 1_000, 3 * WIDEST_KINK, 10 * WIDEST_KINK
+    by = rng.choice((-1, 1)) * rng.choice(limits)
     c, s = random_crests.unit(element.c - element.s * by // ONE, element.s + element.c * by // ONE)
     bent = element._replace(c=c, s=s)
     if record > 0:
@@ -569,8 +582,8 @@ def limit_records():
     elements = []
     for kind, least in ((LINE, 0), (ARC, 2), (ENTRY, 1), (EXIT, 1)):
         base = Element(kind, 1_000, 0, 0, ONE, 0, 5_000_000 if least else 0)
-        elements += [base._replace(length=length) for length in (0, 1, 500_000, 500_001)]
-        sizes = (least * 1_000, least * 1_000 - 1, 10_000_000, 10_000_001) if least else (0, 1)
+        elements += [base._replace(length=length) for length in (0, 1, LONGEST_ELEMENT, LONGEST_ELEMENT + 1)]
+        sizes = (least * 1_000, least * 1_000 - 1, WIDEST, WIDEST + 1) if least else (0, 1)
         elements += [base._replace(radius=sign * size) for size in sizes for sign in (-1, 1)]
         for n in (FRAME, FRAME + 1, -FRAME, -FRAME - 1):
             elements += [base._replace(x=n), base._replace(y=n)]
@@ -582,11 +595,12 @@ def limit_joins(rng, count):
     """Two lines whose gap and kink lie on their limits, or one beyond."""
     files = []
     for _ in range(count):
-        x, y = (rng.choice((0, 100, -100, rng.choice((-101, 101)))) for _ in range(2))
-        bend = rng.choice((0, 1, -1)) * rng.choice((crest.KINK_LIMIT, crest.KINK_LIMIT, crest.KINK_LIMIT + 1))
-        length = rng.randint(1, 500_000)
+        gap, more = WIDEST_GAP, WIDEST_GAP + 1
+        x, y = (rng.choice((0, gap, -gap, rng.choice((-more, more)))) for _ in range(2))
+        bend = rng.choice((0, 1, -1)) * rng.choice((WIDEST_KINK, WIDEST_KINK, WIDEST_KINK + 1))
+        length = rng.randint(1, LONGEST_ELEMENT)
         first = Element(LINE, length, 0, 0, ONE, 0, 0)
-        second = Element(LINE, length, 100 * length + x, y, math.isqrt(2**60 - bend**2), bend, 0)
+        second = Element(LINE, length, GRAINS * length + x, y, math.isqrt(UNIT_SQUARE - bend**2), bend, 0)
         files.append(crest.file_made(records_of((first, second))))
     return files
 
@@ -597,11 +611,12 @@ def damaged_files(rng, each):
     for damage in DAMAGES:
         for number in range(each):
             # the last two of each sort lie in more than one block
-            count = rng.randint(2, 4) if number < each - 2 else rng.choice((16, 17, 31, 46))
+            large = PER_BLOCK + 1, PER_BLOCK + 2, 2 * PER_BLOCK + 1, 3 * PER_BLOCK + 1
+            count = rng.randint(2, 4) if number < each - 2 else rng.choice(large)
             file, _ = crest_file(rng, count, at_limit=5)
             files.append(damage(rng, file))
     for _ in range(each * 5):
-        file, _ = crest_file(rng, rng.choice((2, 3, 4, 2, 3, 4, 16)), at_limit=5)
+        file, _ = crest_file(rng, rng.choice((2, 3, 4, 2, 3, 4, PER_BLOCK + 1)), at_limit=5)
         first, second = sorted(rng.choices(range(1, len(DAMAGES)), k=2), reverse=True)
         # the sums are the last to be spoiled
         files.append(DAMAGES[second](rng, DAMAGES[first](rng, file)))
@@ -609,10 +624,12 @@ def damaged_files(rng, each):
 
 
 def acceptance(rng):
-    counts = [1] * 20 + [2] * 20 + [3] * 20 + [4, 5, 6, 14, 15, 15, 16, 29, 30, 31, 45, 46, 59, 60]
+    one, two, three = PER_BLOCK, 2 * PER_BLOCK, 3 * PER_BLOCK
+    counts = [1] * 20 + [2] * 20 + [3] * 20 + [4, 5, 6, one - 1, one, one, one + 1]
+    counts += [two - 1, two, two + 1, three, three + 1, MOST_RECORDS - 1, MOST_RECORDS]
     accepted = []
     for count in counts:
-        longest = rng.choice((3, 500, 50_000)) if count > 6 else rng.choice((1, 60, 5_000, 500_000))
+        longest = rng.choice((3, 500, 50_000)) if count > 6 else rng.choice((1, 60, 5_000, LONGEST_ELEMENT))
         accepted.append(crest_file(rng, count, longest=longest))
     damaged = damaged_files(rng, 16) + limit_records() + limit_joins(rng, 60)
     verdicts = [outcome_of(crest.check(file)) for file in damaged]
@@ -623,7 +640,7 @@ def acceptance(rng):
     small, large = [], []
     for file, verdict in [*((file, None) for file, _ in accepted), *zip(damaged, verdicts)]:
         case = Case(f"checkOf {file_crest(file)}", outcome_text(verdict))
-        (small if len(file) <= 512 else large).append(case)
+        (small if len(file) <= BLOCK_SIZE else large).append(case)
     elements = [Case(f"crestElements {spelt(file)}", elements_text(found.elements)) for file, found in accepted]
     kinds = []
     for byte in range(256):
@@ -677,17 +694,20 @@ def writer(rng):
     for _ in range(60):
         count = rng.choice((1, 1, 2, 2, 3, 4, 5))
         good = records_of(random_crests.random_elements(rng, Wish(count=count)))
-        asked += [(good, room) for room in rng.sample((0, 1, 511, 512, 513, 600, 1024), 2)]
-    for count in (15, 16, 30, 31, 45, 60):
+        rooms = 0, 1, BLOCK_SIZE - 1, BLOCK_SIZE, BLOCK_SIZE + 1, BLOCK_SIZE + 88, 2 * BLOCK_SIZE
+        asked += [(good, room) for room in rng.sample(rooms, 2)]
+    for count in (PER_BLOCK, PER_BLOCK + 1, 2 * PER_BLOCK, 2 * PER_BLOCK + 1, 3 * PER_BLOCK, MOST_RECORDS):
         good = records_of(random_crests.random_elements(rng, Wish(count=count)))
-        needed = 512 * -(-count // 15)
+        needed = BLOCK_SIZE * blocks_needed(count)
         asked += [(good, room) for room in (needed - 1, needed, needed + rng.randint(1, 90))]
-    for length in (0, 1, 31, 33, 63, 65, 100, 61 * 32, 60 * 32 + 1, 62 * 32):
-        asked += [(random_bytes(rng, length), room) for room in (0, 512)]
+    size, most = RECORD_SIZE, MOST_RECORDS * RECORD_SIZE
+    for length in (0, 1, size - 1, size + 1, 2 * size - 1, 2 * size + 1, 100, most + size, most + 1, most + 2 * size):
+        asked += [(random_bytes(rng, length), room) for room in (0, BLOCK_SIZE)]
+    few = 5 * size  # the larger ones are in tables of their own
     for file in damaged_files(rng, 7):  # 4 to 9, with and without room
         bad = crest.used_records(crest.blocks_of(file)[:1])
-        if 0 < len(bad) <= 160 and len(bad) % 32 == 0:
-            asked.append((bad, rng.choice((0, 511, 512, 512, 700))))
+        if 0 < len(bad) <= few and len(bad) % size == 0:
+            asked.append((bad, rng.choice((0, BLOCK_SIZE - 1, BLOCK_SIZE, BLOCK_SIZE, 700))))
     outcomes, rooms, calls, files = [], [], [], []
     for data, length in asked:
         room = random_bytes(rng, length)
@@ -697,14 +717,15 @@ def writer(rng):
         value = crest.c_value(*refusal) if refusal else 0
         calls.append((len(data), Case(f"writeCall {spelt(data)} {spelt(room)}", f"({value}, {spelt(after)})")))
         if not refusal:
-            files.append((len(data), Case(f"fileOf {spelt(data)}", spelt(after[: 512 * -(-len(data) // 480)]))))
+            needed = BLOCK_SIZE * blocks_needed(len(data) // size)
+            files.append((len(data), Case(f"fileOf {spelt(data)}", spelt(after[:needed]))))
     numbers = {int(case.due.split()[2]) for _, case in outcomes if case.due != "Done"}
     assert numbers == {4, 5, 6, 7, 8, 9, 17, 18}, numbers
 
     def split(name, kind, unfolding, sized, size):
         """The few large ones apart."""
-        small = [case for length, case in sized if length <= 160]
-        large = [case for length, case in sized if length > 160]
+        small = [case for length, case in sized if length <= few]
+        large = [case for length, case in sized if length > few]
         return [Table(name, kind, unfolding, small, size), Table(f"large-{name}", kind, unfolding, large, 2)]
 
     tables = [
@@ -724,12 +745,13 @@ def writer(rng):
 def sample_elements(rng, count):
     """Elements of every kind, sign, extreme and random lengths and radii, not joined to anything."""
     elements = []
-    lengths = (1, 2, 3, 999, 250_000, 499_999, 500_000)
+    longest = LONGEST_ELEMENT
+    lengths = (1, 2, 3, 999, 250_000, longest - 1, longest)
     for number in range(count):
         kind = (LINE, ARC, ENTRY, EXIT)[number % 4]
-        length = rng.choice((rng.choice(lengths), rng.randint(1, 500_000), 1 + spread(rng, 499_999)))
-        least = 2 * length if kind == ARC else length
-        size = rng.choice((least, least, crest.WIDEST, min(crest.WIDEST, least + spread(rng, crest.WIDEST))))
+        length = rng.choice((rng.choice(lengths), rng.randint(1, longest), 1 + spread(rng, longest - 1)))
+        least = least_radius(kind, length)
+        size = rng.choice((least, least, WIDEST, min(WIDEST, least + spread(rng, WIDEST))))
         radius = 0 if kind == LINE else rng.choice((-1, 1)) * size
         corner = rng.choice((-1, 1)) * FRAME, rng.choice((-1, 1)) * FRAME
         x, y = rng.choice((corner, (0, 0), (signed(rng, FRAME), signed(rng, FRAME))))
@@ -797,15 +819,15 @@ def exact(element, l):
     """The three-term sums of document 01's bound as fractions: (u or U, v or V)."""
     turn = turn_of(element, l)
     if element.kind == LINE:
-        return Fraction(100 * l), Fraction(0)
+        return Fraction(GRAINS * l), Fraction(0)
     if element.kind == ARC:
         return (
-            100 * l * (1 - turn**2 / 6 + turn**4 / 120),
-            50 * l * turn * (1 - turn**2 / 12 + turn**4 / 360),
+            GRAINS * l * (1 - turn**2 / 6 + turn**4 / 120),
+            GRAINS // 2 * l * turn * (1 - turn**2 / 12 + turn**4 / 360),
         )
     return (
-        100 * l * (1 - turn**2 / 10 + turn**4 / 216),
-        100 * l * turn * (1 - turn**2 / 14 + turn**4 / 440) / 3,
+        GRAINS * l * (1 - turn**2 / 10 + turn**4 / 216),
+        GRAINS * l * turn * (1 - turn**2 / 14 + turn**4 / 440) / 3,
     )
 
 
@@ -915,7 +937,7 @@ def stations_of(rng, alignment):
 
 def stations(rng):
     wishes = [Wish(count=count) for count in (1, 1, 2, 3, 4, 5, 8)]
-    sizes = ((3, 500_000), (5, 1), (60, 40), (12, 100_000))
+    sizes = ((3, LONGEST_ELEMENT), (5, 1), (MOST_RECORDS, 40), (12, 100_000))
     wishes += [Wish(count=count, longest=longest) for count, longest in sizes]
     elements, numbers, positions, tangents, distances, totals, allowed = [], [], [], [], [], [], []
     named = named_alignments(rng, wishes)
@@ -977,10 +999,12 @@ def points_for(rng, alignment, count):
 
 
 STRAIGHT = Named("straight", crest.Alignment([Element(LINE, 40, 0, 0, ONE, 0, 0)]))
+END = 40 * GRAINS
+PAST = PAST_END - 1, PAST_END, PAST_END + 1
 # Points beside STRAIGHT on the limits of 11 to 14, or one beyond.
 LIMIT_POINTS = [
-    *((x, sign * y) for x in (0, 1_700, 1_701, 1_750, 4_000) for y in (20_000_000, 20_000_001) for sign in (-1, 1)),
-    *((x, y) for x in (-99, -100, -101, 4_099, 4_100, 4_101) for y in (0, 7, -3_000)),
+    *((x, sign * y) for x in (0, 1_700, 1_701, 1_750, END) for y in (FAR, FAR + 1) for sign in (-1, 1)),
+    *((x, y) for x in (*(-past for past in PAST), *(END + past for past in PAST)) for y in (0, 7, -3_000)),
     *((x, y) for x in (FRAME, FRAME + 1, -FRAME, -FRAME - 1) for y in (0, FRAME, FRAME + 1)),
 ]
 
@@ -1032,7 +1056,9 @@ def judged(rng):
 
 
 def walk(rng):
-    totals = [1, 2, 3, 999, 1000, 1001, 1999, 2000, 60_000, *(spread(rng, 40_000) + 1 for _ in range(41))]
+    step = FIRST_STEP
+    totals = [1, 2, 3, step - 1, step, step + 1, 2 * step - 1, 2 * step, 60 * step]
+    totals += [spread(rng, 40_000) + 1 for _ in range(41)]
     first = [Case(f"firstVisits {t}", naturals(crest.first_visits(t))) for t in totals]
     roots, skips = [], []
     for _ in range(50):
@@ -1040,15 +1066,17 @@ def walk(rng):
         root = math.isqrt(n)
         n = rng.choice((n, root * root, max(0, root * root - 1), root * root + 2 * root))
         roots.append(Case(f"root {n}", str(math.isqrt(n))))
-        best = spread(rng, 4 * 10**14)
-        further = math.isqrt(best) + rng.choice((0, 29, 30, 31, 32, 180, 181, 182, spread(rng, 10**8)))
+        best = spread(rng, crest.FARTHEST)
+        slack, one = ROOT_SLACK, ROOT_SLACK + STEP_DIVISOR
+        limits = slack - 2, slack - 1, slack, slack + 1, one - 1, one, one + 1
+        further = math.isqrt(best) + rng.choice((0, *limits, spread(rng, 10**8)))
         d = further**2 + rng.randint(0, 2 * further)
-        surplus = math.isqrt(d) - math.isqrt(best)
-        skips.append(Case(f"skipped {d} {best}", str((surplus - 31) // 150 if surplus >= 31 else 0)))
+        skips.append(Case(f"skipped {d} {best}", str(crest.skipped(d, best))))
     second, counts, both = [], [], []
     wishes = [short_wish(rng, 120) for _ in range(24)]
-    wishes += [Wish(count=rng.randint(1, 4), longest=rng.choice((500, 5_000, 30_000, 500_000))) for _ in range(40)]
-    wishes += [Wish(count=60, longest=20), Wish(count=25, longest=4_000)]
+    longest = 500, 5_000, 30_000, LONGEST_ELEMENT
+    wishes += [Wish(count=rng.randint(1, 4), longest=rng.choice(longest)) for _ in range(40)]
+    wishes += [Wish(count=MOST_RECORDS, longest=20), Wish(count=25, longest=4_000)]
     named = named_alignments(rng, wishes)
     skipped = 0
     for one in named:
@@ -1114,7 +1142,7 @@ def move_text(answer):
 def some_place(rng, total):
     """A station and an offset, now and then just out of range."""
     station = rng.choice((0, total, rng.randint(0, total), rng.randint(0, total), -1, total + 1, -(2**40)))
-    limit = crest.OFFSET_LIMIT
+    limit = WIDEST_OFFSET
     offset = rng.choice((0, limit, -limit, limit + 1, -limit - 1, signed(rng, limit), signed(rng, limit)))
     return station, offset
 
@@ -1145,7 +1173,8 @@ def answers(rng):
     placed_papers, located_papers, inverse_papers, move_papers, papers = [], [], [], [], []
     seen = set()
     edge = Wish(count=2, middle=(FRAME, -FRAME + 5), heading=(0, ONE), kinds=(LINE,), gap=0)
-    named = named_alignments(rng, [edge, *(Wish(count=n, longest=m) for n in (1, 2, 5, 20) for m in (60, 500_000))])
+    sizes = [(n, m) for n in (1, 2, 5, 20) for m in (60, LONGEST_ELEMENT)]
+    named = named_alignments(rng, [edge, *(Wish(count=n, longest=m) for n, m in sizes)])
     for one in named:
         for _ in range(20):
             s, w = some_place(rng, one.alignment.total)
@@ -1159,7 +1188,7 @@ def answers(rng):
             papers.append(Case(f"paperOfPlaced ({placed_text(answer)})", paper_text(*answer)))
     assert seen == {0, 11, 15}, seen
     for _ in range(40):
-        file, alignment = crest_file(rng, rng.choice((1, 2, 3)), longest=rng.choice((50, 500_000)))
+        file, alignment = crest_file(rng, rng.choice((1, 2, 3)), longest=rng.choice((50, LONGEST_ELEMENT)))
         total = alignment.total
         if rng.randrange(4) == 0:
             file = rng.choice(DAMAGES)(rng, file)
@@ -1194,7 +1223,8 @@ def answers(rng):
         moves.append(Case(f"stakeOut {text}", move_text(answer)))
         move_papers.append(Case(f"paperAfter [] (moveQuestion {text})", paper_text(*answer)))
         papers.append(Case(f"paperOfMove ({move_text(answer)})", paper_text(*answer)))
-        room = random_bytes(rng, rng.choice((8, 8, 8, 8, 0, 7, 9, 24)))
+        sizes = *[MOVE_SIZE] * 4, 0, MOVE_SIZE - 1, MOVE_SIZE + 1, RUN_SIZE
+        room = random_bytes(rng, rng.choice(sizes))
         value, after = crest.crest_stake_out(*own, *target, c, s, room)
         calls.append(Case(f"stakeOutCall {text} {spelt(room)}", f"({value}, {spelt(after)})"))
     assert seen == {0, 7, 11}, seen
@@ -1342,9 +1372,9 @@ def readings(rng):
         if answer.number:  # as many zeros as are asked for; an answer has its own values
             due = paper_text(answer.number, answer.place, *[0] * n)
         of_any.append(Case(f"paperOfReading {n} ({text})", due))
-    pairs = [(0, 0), (30_000_000, 20_000_424), (1, -1), (5, 300), (7, -50)]
+    pairs = [(0, 0), (LONGEST_ALIGNMENT, MOST_OFFSET), (1, -1), (5, 300), (7, -50)]
     pairs += [(2**53 + 1, 2**53 + 1), (2**64 - 1, -(2**63))]
-    pairs += [(spread(rng, 30_000_000), signed(rng, 20_000_424)) for _ in range(60)]
+    pairs += [(spread(rng, LONGEST_ALIGNMENT), signed(rng, MOST_OFFSET)) for _ in range(60)]
     pairs += [(spread(rng, 2**64 - 1), signed(rng, 2**63 - 1)) for _ in range(40)]
     displays = []
     for station, offset in pairs:
@@ -1389,11 +1419,11 @@ def random_run(rng, full=False):
     """A state that 24 bytes can spell."""
 
     def u16():
-        return rng.choice((0, 1, 65_534, 65_535, spread(rng, 65_535), rng.randint(0, 65_535)))
+        return rng.choice((0, 1, U16 - 1, U16, spread(rng, U16), rng.randint(0, U16)))
 
     while True:
         answered, refused = u16(), u16()
-        if full or answered + refused < crest.RUN_LIMIT:
+        if full or answered + refused < MOST_COUNTED:
             break
     three = tuple(rng.choice((rng.choice(I32), signed(rng, 2**31 - 1))) for _ in range(3))
     first, reading = rng.choice(((0, 0), (0, u16()), (u16(), u16())))
@@ -1416,13 +1446,13 @@ def random_answer(rng):
     choice = rng.randrange(3)
     if choice == 0:
         sort = rng.choice((crest.PlanePoint, crest.LinePlace))
-        outcome = crest.ReadingAnswer(rng.randint(1, 15), rng.choice((0, 0, 3, 59)))
+        outcome = crest.ReadingAnswer(rng.randint(1, 15), rng.choice((0, 0, 3, MOST_RECORDS - 1)))
     elif choice == 1:
         sort = crest.LinePlace
         outcome = crest.ReadingAnswer(0, 0, (signed(rng, FRAME), signed(rng, FRAME), 0))
     else:
         sort = crest.PlanePoint
-        three = spread(rng, 30_000_000), signed(rng, 20_000_424), signed(rng, 200)
+        three = spread(rng, LONGEST_ALIGNMENT), signed(rng, MOST_OFFSET), signed(rng, 200)
         outcome = crest.ReadingAnswer(0, 0, three, spread(rng, 10**6))
     return sort(odd_bits(rng), odd_bits(rng)), outcome
 
@@ -1430,8 +1460,8 @@ def random_answer(rng):
 def run_record(rng):
     """The run by value and as bytes, from states of every sort."""
     shown_, counted, acknowledged, read, written, full = [], [], [], [], [], []
-    for number in range(1, 19):
-        for place in (0, 59):
+    for number in range(1, LAST_NUMBER + 1):
+        for place in (0, MOST_RECORDS - 1):
             answer = crest.ReadingAnswer(number, place)
             shown_.append(Case(f"shownOf (AnswerRefused {refusal_text(number, place)})", shown_text(answer)))
     for _ in range(60):
@@ -1442,9 +1472,9 @@ def run_record(rng):
         state = random_run(rng, full=True)
         acknowledged.append(Case(f"acknowledged {run_text(state)}", run_text(crest.acknowledged(state))))
         full.append(Case(f"isFull {run_text(state)}", truth(crest.run_is_full(state))))
-        data = random_bytes(rng, 24)
+        data = random_bytes(rng, RUN_SIZE)
         read.append(Case(f"runAt {spelt(data)}", run_text(crest.run_of(data))))
-        old = random_bytes(rng, 24)
+        old = random_bytes(rng, RUN_SIZE)
         due = crest.bytes_of_run(state._replace(spare=crest.run_of(old).spare))
         written.append(Case(f"runBytes {run_text(state)} {spelt(old)}", spelt(due)))
     return [
@@ -1457,7 +1487,7 @@ def run_record(rng):
     ]
 
 
-def reading_told(state, outcome, limit=crest.RUN_LIMIT):
+def reading_told(state, outcome, limit=MOST_COUNTED):
     """(outcome, run afterwards) of a reading that comes to an outcome, on a run that counts up to a limit."""
     if state.answered + state.refused >= limit:
         return crest.ReadingAnswer(16, 0), state
@@ -1471,7 +1501,7 @@ def run_answers(rng):
         reading, came = random_answer(rng)
         state = random_run(rng, full=number % 4 == 0)
         if number % 8 == 0:
-            state = state._replace(answered=30_000, refused=crest.RUN_LIMIT - 30_000 - rng.randrange(2))
+            state = state._replace(answered=30_000, refused=MOST_COUNTED - 30_000 - rng.randrange(2))
         text = f"({answer_text(reading, came)})"
         outcome, after = reading_told(state, came)
         seen.add((type(reading), came.number > 0, outcome.number == 16))
@@ -1481,7 +1511,7 @@ def run_answers(rng):
         papers.append(Case(asked, reading_paper(reading, outcome)))
         data, left = crest.bytes_of_run(state), crest.bytes_of_run(after)
         if number % 5 == 0:
-            data = left = random_bytes(rng, rng.choice((0, 8, 23, 25)))
+            data = left = random_bytes(rng, rng.choice((0, 8, RUN_SIZE - 1, RUN_SIZE + 1)))
             outcome = crest.ReadingAnswer(18, 0)
         value = crest.c_value(outcome.number, outcome.place)
         calls.append(Case(f"readingCall {text} {spelt(data)}", f"({value}, {spelt(left)})"))
@@ -1497,8 +1527,8 @@ def run_calls(rng):
     """The C calls on any bytes, and readings of a crest file on a run by value."""
     acknowledgements, read_calls, noted, shown_, papers, checks = [], [], [], [], [], []
     for number in range(60):
-        length = 24 if number % 3 else rng.choice((0, 1, 8, 23, 25, 48, 512))
-        data = random_bytes(rng, length)
+        others = 0, 1, 8, RUN_SIZE - 1, RUN_SIZE + 1, 2 * RUN_SIZE, BLOCK_SIZE
+        data = random_bytes(rng, RUN_SIZE if number % 3 else rng.choice(others))
         value, after = crest.crest_acknowledge(data)
         acknowledgements.append(Case(f"acknowledgeCall {spelt(data)}", f"({value}, {spelt(after)})"))
     returned = set()
@@ -1506,9 +1536,10 @@ def run_calls(rng):
         file, alignment = short_crest(rng)
         reading = some_reading(rng, alignment)
         state = random_run(rng, full=number % 10 == 0)
-        data = crest.bytes_of_run(state) if number % 8 else random_bytes(rng, rng.choice((0, 1, 23, 25, 24)))
+        sizes = 0, 1, RUN_SIZE - 1, RUN_SIZE + 1, RUN_SIZE
+        data = crest.bytes_of_run(state) if number % 8 else random_bytes(rng, rng.choice(sizes))
         value, after = crest.c_reading(file, reading, data)
-        returned.add(value % 256)
+        returned.add(value % PLACE_UNIT)
         asked = f"{file_crest(file)} {reading_text(reading)}"
         read_calls.append(Case(f"readingCall (answerTo {asked}) {spelt(data)}", f"({value}, {spelt(after)})"))
         outcome = shown_text(crest.reading_answer(crest.check(file), reading))
@@ -1565,7 +1596,7 @@ def any_calls(rng):
     return calls
 
 
-def run_told(state, outcomes, limit=crest.RUN_LIMIT):
+def run_told(state, outcomes, limit=MOST_COUNTED):
     """The run after outcomes, None for an acknowledgement, that counts up to a limit of readings."""
     for outcome in outcomes:
         if outcome is None:
@@ -1590,7 +1621,7 @@ def history_tables(rng, name, made, unfolding, size):
         demanded.append(Case(f"demanded {text}", run_text(state)))
         events += [Case(f"eventOf ({call.text})", event_text(call.outcome)) for call in calls[:2]]
         left = rng.randint(0, 3)
-        state = random_run(rng)._replace(answered=30_000, refused=crest.RUN_LIMIT - 30_000 - left)
+        state = random_run(rng)._replace(answered=30_000, refused=MOST_COUNTED - 30_000 - left)
         nearly_full.append(Case(f"afterCalls {text} {run_text(state)}", run_text(run_told(state, outcomes))))
     return [
         Table(f"after-{name}", "Run", f"afterCalls {unfolding}", after, size),
@@ -1604,7 +1635,7 @@ def history_tables(rng, name, made, unfolding, size):
 def histories(rng):
     cut = []
     for _ in range(80):
-        limit = rng.choice((0, 1, 2, 3, 10, 65_535, 65_535))
+        limit = rng.choice((0, 1, 2, 3, 10, MOST_COUNTED, MOST_COUNTED))
         outcomes = [call.outcome for call in any_calls(rng)]
         asked = f"shownAfter (countedOf {limit} {listed(map(event_text, outcomes))})"
         cut.append(Case(asked, run_text(run_told(crest.FRESH, outcomes, limit))))
@@ -1676,18 +1707,18 @@ def refusals(rng):
     sentences = [Case(f"sentence {why}", f'"{words}"') for why, words in TABLE]
     given = []
     for number, why in enumerate(REASONS, 1):
-        for place in (0, 1, 59, spread(rng, 2**32)):
+        for place in (0, 1, MOST_RECORDS - 1, spread(rng, 2**32)):
             given.append(Case(f"refusal {why} {place}", refusal_text(number, place)))
     verdicts = []
     for _ in range(120):
-        text, first = random_rules(rng, range(1, 19))
+        text, first = random_rules(rng, range(1, LAST_NUMBER + 1))
         verdicts.append(Case(f"verdict {text}", outcome_text(first)))
     tested = [*range(31), 255, 256, 257, 65_535, 2**32, 2**64, *(spread(rng, 2**40) for _ in range(10))]
     own = [Case(f"isOwn {n}", truth(n in OWN)) for n in tested]
     of_readings = [Case(f"refusesReading {n}", truth(n in OF_READINGS)) for n in tested]
     codes = [Case("code (paperOfOutcome Done)", "0")]
-    for number in range(1, 19):
-        for place in (0, rng.randint(1, 59)):
+    for number in range(1, LAST_NUMBER + 1):
+        for place in (0, rng.randint(1, MOST_RECORDS - 1)):
             outcome = f"(Refused {refusal_text(number, place)})"
             codes.append(Case(f"code (paperOfOutcome {outcome})", str(crest.c_value(number, place))))
     tables = [
@@ -1727,14 +1758,15 @@ def last_line(state):
 
 
 def program(rng):
-    numbers = [0, 9, 10, 11, 99, 100, 101, 65_535, 65_536, 30_000_000, 2**64] + [spread(rng, 10**9) for _ in range(40)]
+    numbers = [0, 9, 10, 11, 99, 100, 101, MOST_COUNTED, MOST_COUNTED + 1, LONGEST_ALIGNMENT, 2**64]
+    numbers += [spread(rng, 10**9) for _ in range(40)]
     decimals = [Case(f"decimal {n}", spelt(str(n).encode())) for n in numbers]
     signs = [Case(f"signed {whole(n)}", spelt(str(n).encode())) for n in (0, -1, 1, -9, -10, -100, -(2**31))]
-    signs += [Case(f"signed {whole(n)}", spelt(str(n).encode())) for n in (signed(rng, 20_000_424) for _ in range(30))]
+    signs += [Case(f"signed {whole(n)}", spelt(str(n).encode())) for n in (signed(rng, MOST_OFFSET) for _ in range(30))]
     lines, lasts = [], []
     for _ in range(40):
         _, outcome = random_answer(rng)
-        number = rng.choice((1, 9, 10, 65_536, spread(rng, 70_000)))
+        number = rng.choice((1, 9, 10, MOST_COUNTED + 1, spread(rng, 70_000)))
         lines.append(Case(f"readingLine {number} {shown_text(outcome)}", spelt(program_line(number, outcome).encode())))
         state = random_run(rng)
         if rng.randrange(3) == 0:
@@ -1747,22 +1779,22 @@ def program(rng):
         for _ in range(rng.randint(0, 3)):
             reading = some_reading(rng, alignment)
             data += b"".join(bits.to_bytes(8, "little") for bits in reading)
-        data += rng.randbytes(rng.choice((0, 0, 1, 8, 15)))
+        data += rng.randbytes(rng.choice((0, 0, 1, 8, READING_SIZE - 1)))
         found = listed(map(reading_text, crest.plane_readings(data)))
         read.append(Case(f"readingsOf {spelt(data)}", found))
         printed.append(Case(f"printed {spelt(file)} {spelt(data)}", spelt(crest.program_text(file, data).encode())))
-    full = []
+    full, first_number = [], MOST_COUNTED - 1
     for _ in range(20):
         # a run that fills while it is read: the numbers in the input go on
         file, alignment = short_crest(rng)
-        start = crest.Run(65_535 - rng.randint(0, 2), 0)
+        start = crest.Run(MOST_COUNTED - rng.randint(0, 2), 0)
         found = [some_reading(rng, alignment) for _ in range(3)]
         found = [crest.PlanePoint(*reading) for reading in found]
         state, text, held = start, "", crest.check(file)
-        for number, reading in enumerate(found, 65_534):
+        for number, reading in enumerate(found, first_number):
             outcome, state = crest.take_reading(state, held, reading)
             text += program_line(number, outcome)
-        asked = f"printFrom {file_crest(file)} 65534 {run_text(start)} {listed(map(reading_text, found))}"
+        asked = f"printFrom {file_crest(file)} {first_number} {run_text(start)} {listed(map(reading_text, found))}"
         full.append(Case(asked, spelt((text + last_line(state)).encode())))
     tables = [
         Table("decimals", "List ℕ", "decimal", decimals),
@@ -1884,6 +1916,12 @@ def chapters():
     return made
 
 
+def part_of(chapter):
+    """Every table of a chapter, with a third of its cases where they are dear."""
+    tables = [table._replace(cases=table.cases[:: 3 if table.size <= DEAR else 1]) for table in chapter.tables]
+    return chapter._replace(tables=tables)
+
+
 # ---------------------------------------------------------------------------
 # The copy, and the checker
 
@@ -1998,22 +2036,22 @@ def report(made, verdict):
         print(f"{chapter.number:2} {chapter.name:10} {chapter.count:5} cases, {parts:3} declarations: {word}")
 
 
-def check_all(folder):
-    """0 if the checker accepts every table and refuses every false one."""
+def check_all(folder, part):
+    """0 if the checker accepts every table, or its part, and refuses every false one."""
     start = time.monotonic()
     make_copy(folder)
-    made = chapters()
+    whole_ones = chapters()
+    made = list(map(part_of, whole_ones)) if part else whole_ones
     put_modules(folder, {chapter.module: module_text(chapter, chapter.tables, chapter.after) for chapter in made})
     written = time.monotonic()
     verdict = ask_checker(folder, "check")
     checked = time.monotonic()
     report(made, verdict)
-    total = sum(chapter.count for chapter in made)
-    print(f"{total} cases, made in {written - start:.0f} s, checked in {checked - written:.0f} s")
+    print(f"made in {written - start:.0f} s, checked in {checked - written:.0f} s")
     if not verdict.accepted:
         show_refused(folder, made, verdict)
         return 1
-    false = {chapter.module: false_tables(chapter) for chapter in made}
+    false = {chapter.module: false_tables(chapter) for chapter in whole_ones}
     put_modules(folder, {chapter.module: module_text(chapter, false[chapter.module]) for chapter in made})
     verdict = ask_checker(folder, "dev")
     places = {(module, name) for module, some in false.items() for table in some for name, _ in declarations(table)}
@@ -2022,18 +2060,22 @@ def check_all(folder):
     if taken:
         print(f"NOT REFUSED: {', '.join(map(' '.join, taken))}\n{errors_in(verdict.text)}")
         return 1
+    count, most = (sum(chapter.count for chapter in some) for some in (made, whole_ones))
+    print(f"definition cases: {count}{f' of {most}' if part else ''} accepted, in {time.monotonic() - start:.0f} s")
     return 0
 
 
 def main(arguments):
-    if len(arguments) > 1:
-        sys.exit("usage: definition_cases.py [FOLDER]")
-    if arguments:
-        folder = Path(arguments[0]).resolve()
+    part = arguments[:1] == ["--part"]
+    folders = arguments[part:]
+    if len(folders) > 1 or folders and folders[0].startswith("-"):
+        sys.exit("usage: definition_cases.py [--part] [FOLDER]")
+    if folders:
+        folder = Path(folders[0]).resolve()
         folder.mkdir(parents=True)
-        return check_all(folder)
+        return check_all(folder, part)
     with tempfile.TemporaryDirectory(prefix="definition-cases-") as folder:
-        return check_all(Path(folder))
+        return check_all(Path(folder), part)
 
 
 if __name__ == "__main__":

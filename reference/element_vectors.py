@@ -4,11 +4,11 @@ import random
 
 import crest
 import random_crests
-from crest import ARC, ENTRY, EXIT, FRAME, LINE, LONGEST, ONE, WIDEST, Element
+from crest import ARC, ENTRY, EXIT, FRAME, LINE, LONGEST_ELEMENT, ONE, WIDEST, Element, least_radius
 from rows import ELEMENT
 
 ELEMENTS = 2_600
-LENGTHS = (1, 2, 3, 10, 999, 100_001, LONGEST - 1, LONGEST)
+LENGTHS = (1, 2, 3, 10, 999, 100_001, LONGEST_ELEMENT - 1, LONGEST_ELEMENT)
 
 
 def edge_directions():
@@ -18,10 +18,6 @@ def edge_directions():
         for pair in (c, s), (s, c):
             for signs in (1, 1), (1, -1), (-1, 1), (-1, -1):
                 yield pair[0] * signs[0], pair[1] * signs[1]
-
-
-def least_radius(kind, length):
-    return 2 * length if kind == ARC else length
 
 
 def edge_shapes():
@@ -53,7 +49,7 @@ def half_stations(kind, length):
 
 def random_shape(rng):
     kind = rng.choice((LINE, ARC, ENTRY, EXIT, ARC, ENTRY, EXIT))
-    length = round(LONGEST ** rng.random()) if rng.random() < 0.5 else rng.randint(1, LONGEST)
+    length = round(LONGEST_ELEMENT ** rng.random()) if rng.random() < 0.5 else rng.randint(1, LONGEST_ELEMENT)
     if kind == LINE:
         return kind, length, 0
     least = least_radius(kind, length)

@@ -14,7 +14,7 @@ ONE = crest.ONE
 def file_of(*elements):
     """A real file made by the writer."""
     records = b"".join(map(crest.record_of, elements))
-    refusal, room = crest.write(records, bytes(512 * -(-len(elements) // 15)))
+    refusal, room = crest.write(records, bytes(crest.BLOCK_SIZE * crest.blocks_needed(len(elements))))
     assert refusal is None, refusal
     return room
 

@@ -1,9 +1,7 @@
 """Crest files made by hand: plain lines, files without any check, and files with some bytes changed."""
 
-import struct
-
 import crest
-from crest import LINE, ONE, Element
+from crest import GRAINS, LINE, ONE, Element
 
 
 def line(x=0, y=0, length=10, c=ONE, s=0):
@@ -12,7 +10,7 @@ def line(x=0, y=0, length=10, c=ONE, s=0):
 
 def lines(count):
     """Lines of 10 mm one after the other along x."""
-    return [line(x=1000 * i) for i in range(count)]
+    return [line(x=10 * GRAINS * i) for i in range(count)]
 
 
 def records_of(elements):
@@ -26,7 +24,7 @@ def raw_file(elements):
 
 def sealed(file):
     """The file with A and B made good in every block."""
-    return b"".join(block[:508] + struct.pack("<HH", *crest.sums(block)) for block in crest.blocks_of(file))
+    return b"".join(map(crest.with_sums, crest.blocks_of(file)))
 
 
 def patched(file, at, data):

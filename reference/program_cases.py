@@ -14,9 +14,8 @@ from pathlib import Path
 
 import crest
 import examples
-import random_crests
-from crest import FRAME
-from random_crests import Wish, beside, random_file, random_point
+from crest import FRAME, PAST_END
+from random_crests import FAR, Wish, beside, random_file, random_point
 
 INFINITE = float("inf")
 NAN = float("nan")
@@ -32,11 +31,12 @@ def refused_points(alignment):
     yield from ((FRAME + 1, 0), (0, -FRAME - 1), (1e300, 0.0), (-(2.0**62), 7.0), (-0.0, -(2.0**63)))  # 11
     yield from ((FRAME, FRAME), (-FRAME, -FRAME))
     for left in (0, 1_000, -25_000):  # 13 and 14
-        for along in (-99, -100, -101, -102, -5_000):
-            yield beside(alignment, 0, along, left)
-        for along in (99, 100, 101, 102, 5_000):
+        past = PAST_END - 1, PAST_END, PAST_END + 1, PAST_END + 2, 5_000
+        for along in past:
+            yield beside(alignment, 0, -along, left)
+        for along in past:
             yield beside(alignment, alignment.total, along, left)
-    for left in (19_999_990, 20_000_010, -20_000_010, 60_000_000):  # 12
+    for left in (FAR - 10, FAR + 10, -FAR - 10, 3 * FAR):  # 12
         yield beside(alignment, alignment.total // 2, 0, left)
 
 

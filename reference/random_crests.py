@@ -9,9 +9,10 @@ from math import isqrt
 from typing import NamedTuple
 
 import crest
-from crest import ARC, ENTRY, EXIT, LINE, ONE, Element
+from crest import ARC, ENTRY, EXIT, FRAME, GRAINS, LINE, ONE, PAST_END, UNIT_SLACK, UNIT_SQUARE, WIDEST, Element
 
 AXES = ((ONE, 0), (0, ONE), (-ONE, 0), (0, -ONE))
+FAR = isqrt(crest.FARTHEST)  # grains: the farthest distance answered
 
 
 class Wish(NamedTuple):
@@ -21,8 +22,8 @@ class Wish(NamedTuple):
     shortest: int = 1
     longest: int = 500
     kinds: tuple = (LINE, ARC, ENTRY, EXIT)
-    gap: int = crest.GAP_LIMIT  # greatest gap in grains
-    kink: int = crest.KINK_LIMIT  # greatest kink
+    gap: int = crest.WIDEST_GAP  # greatest gap in grains
+    kink: int = crest.WIDEST_KINK  # greatest kink
     at_limit: int = 20  # of 100 choices, how many lie exactly on a limit
     tight: int = 50  # of 100 radii, how many lie near the least one
     turn: int = 0  # sign of every radius, 0 for both
@@ -36,8 +37,8 @@ class Wish(NamedTuple):
 
 def unit(a, b):
     """The pair (a, b) brought to length ONE; it passes the unit test."""
-    size = isqrt((a * a + b * b) << 60)  # the length times 2^30
-    return crest.near(a << 60, size), crest.near(b << 60, size)
+    size = isqrt((a * a + b * b) * ONE * ONE)  # the length times ONE
+    return crest.near(a * ONE * ONE, size), crest.near(b * ONE * ONE, size)
 
 
 def random_unit(rng):
@@ -60,7 +61,7 @@ def unit_limit_pairs(tries=20_000):
 
     No pair of whole numbers has c² + s² exactly 2^31 from 2^60, so these are the closest found.
     """
-    top, bottom = 2**60 + 2**31, 2**60 - 2**31
+    top, bottom = UNIT_SQUARE + UNIT_SLACK, UNIT_SQUARE - UNIT_SLACK
     above_in = above_out = below_in = below_out = None
 
     def closer(old, pair, edge):
@@ -83,7 +84,7 @@ def unit_limit_pairs(tries=20_000):
 
 def half_directions():
     """Directions with one component exactly half of ONE: a product with an odd number is a whole number and a half."""
-    other = isqrt(3 << 58) + 1
+    other = isqrt(3 * ONE * ONE // 4) + 1
     for pair in (ONE // 2, other), (other, ONE // 2):
         for signs in (1, 1), (1, -1), (-1, 1), (-1, -1):
             yield pair[0] * signs[0], pair[1] * signs[1]
@@ -111,9 +112,9 @@ def kinked(rng, tangent, kink, at_limit):
     by = rng.choice((-kink, kink)) if at_limit else rng.randint(-kink, kink)
     if abs(c) >= abs(s):
         other = tangent[1] + by
-        return (1 if c > 0 else -1) * isqrt(max(0, 2**60 - other * other)), other
+        return (1 if c > 0 else -1) * isqrt(max(0, UNIT_SQUARE - other * other)), other
     other = tangent[0] + by
-    return other, (1 if s > 0 else -1) * isqrt(max(0, 2**60 - other * other))
+    return other, (1 if s > 0 else -1) * isqrt(max(0, UNIT_SQUARE - other * other))
 
 
 # ---------------------------------------------------------------------------
@@ -135,13 +136,13 @@ def random_length(rng, wish):
 def random_radius(rng, wish, kind, length):
     if kind == LINE:
         return 0
-    least = 2 * length if kind == ARC else length
+    least = crest.least_radius(kind, length)
     if rng.randrange(100) < wish.at_limit:
-        size = rng.choice((least, least, crest.WIDEST))
+        size = rng.choice((least, least, WIDEST))
     elif rng.randrange(100) < wish.tight:
-        size = rng.randint(least, min(crest.WIDEST, least + least // 4 + 1))
+        size = rng.randint(least, min(WIDEST, least + least // 4 + 1))
     else:
-        size = min(crest.WIDEST, least * rng.choice((1, 3, 10, 100, 1000)) + rng.randint(0, least))
+        size = min(WIDEST, least * rng.choice((1, 3, 10, 100, 1000)) + rng.randint(0, least))
     return size * (wish.turn or rng.choice((-1, 1)))
 
 
@@ -155,11 +156,11 @@ def random_gap(rng, wish):
 
 def escape_sign(place, tangent, radius):
     """The side on which a full circle of that radius in mm stays in the frame, or 0."""
-    size = 100 * radius
+    size = GRAINS * radius
     for sign in (1, -1):
         x = place[0] - sign * crest.near(size * tangent[1], ONE)
         y = place[1] + sign * crest.near(size * tangent[0], ONE)
-        if abs(x) + size + 10_000 <= crest.FRAME and abs(y) + size + 10_000 <= crest.FRAME:
+        if abs(x) + size + 10_000 <= FRAME and abs(y) + size + 10_000 <= FRAME:
             return sign
     return 0
 
@@ -197,8 +198,8 @@ def begin(rng, wish):
     """Where the alignment begins: position and tangent."""
     while True:
         place = wish.middle or (
-            rng.randint(-crest.FRAME, crest.FRAME),
-            rng.randint(-crest.FRAME, crest.FRAME),
+            rng.randint(-FRAME, FRAME),
+            rng.randint(-FRAME, FRAME),
         )
         tangent = wish.heading or random_unit(rng)
         if wish.middle or wish.count == 1 or escape_sign(place, tangent, 2 * wish.longest):
@@ -242,7 +243,7 @@ def random_elements(rng, wish):
 def random_file(rng, wish):
     """(file made by the writer, its alignment); the writer's and the checker's acceptance are asserted."""
     records = b"".join(map(crest.record_of, random_elements(rng, wish)))
-    refusal, file = crest.write(records, bytes(crest.BLOCK * -(-wish.count // crest.RECORDS_IN_BLOCK)))
+    refusal, file = crest.write(records, bytes(crest.BLOCK_SIZE * crest.blocks_needed(wish.count)))
     assert refusal is None, refusal
     alignment = crest.check(file)
     assert not isinstance(alignment, crest.Refusal), alignment
@@ -258,7 +259,7 @@ def ended(elements, total):
     if not elements:
         return None
     last = elements[-1]
-    if spare < 0 and last.kind != LINE or last.length - spare > crest.LONGEST:
+    if spare < 0 and last.kind != LINE or last.length - spare > crest.LONGEST_ELEMENT:
         return None
     if spare and last.kind in (ENTRY, EXIT):
         return None  # a spiral's length is part of its shape
@@ -271,7 +272,7 @@ def ended(elements, total):
 
 
 def clamp(number):
-    return max(-crest.FRAME, min(crest.FRAME, number))
+    return max(-FRAME, min(FRAME, number))
 
 
 def beside(alignment, station, along, left):
@@ -291,7 +292,7 @@ def centre_of_curvature(alignment, station):
     l = crest.distance_from_anchor(element, s)
     if element.kind == LINE or element.kind != ARC and l == 0:
         return None
-    radius = 100 * element.radius
+    radius = GRAINS * element.radius
     if element.kind != ARC:
         size = crest.near(abs(radius) * element.length, l)
         radius = size if radius > 0 else -size
@@ -323,21 +324,21 @@ def random_point(rng, alignment):
         centre = centre_of_curvature(alignment, station)
         if centre is not None:
             return clamp(centre[0] + rng.randint(-2, 2)), clamp(centre[1] + rng.randint(-2, 2))
-    if choice == 3:  # past the ends, on each side of 100 grains
-        past = rng.choice((0, 50, 99, 100, 101, 102, 150))
+    if choice == 3:  # past the ends, on each side of the limit
+        past = rng.choice((0, 50, PAST_END - 1, PAST_END, PAST_END + 1, PAST_END + 2, 150))
         left = rng.choice((0, 0, rng.randint(-300, 300), rng.randint(-100_000, 100_000)))
         if rng.randrange(2):
             return beside(alignment, 0, -past, left)
         return beside(alignment, alignment.total, past, left)
     if choice == 4:
-        return rng.choice((-1, 1)) * crest.FRAME, rng.choice((-1, 1)) * crest.FRAME
+        return rng.choice((-1, 1)) * FRAME, rng.choice((-1, 1)) * FRAME
     if choice == 5:
-        return rng.randint(-crest.FRAME, crest.FRAME), rng.randint(-crest.FRAME, crest.FRAME)
+        return rng.randint(-FRAME, FRAME), rng.randint(-FRAME, FRAME)
     if choice == 6:  # on each side of the farthest distance answered
-        left = rng.choice((-1, 1)) * (crest.OFFSET_LIMIT + rng.randint(-3, 3))
+        left = rng.choice((-1, 1)) * (FAR + rng.randint(-3, 3))
         return beside(alignment, station, 0, left)
-    reach = rng.choice((100, 1_000, 10_000, 100_000, 1_000_000, 20_000_000))
-    return beside(alignment, station, rng.randint(-100, 100), rng.randint(-reach, reach))
+    reach = rng.choice((100, 1_000, 10_000, 100_000, 1_000_000, FAR))
+    return beside(alignment, station, rng.randint(-GRAINS, GRAINS), rng.randint(-reach, reach))
 
 
 def clamp_pair(pair):

@@ -1,12 +1,15 @@
 """Vectors for the program comparisons: f64 numbers as whole numbers, run records after histories of calls, and display pairs."""
 
 import random
-import struct
 from functools import cache
 from math import isqrt
 
 import crest
-from crest import ARC, ENTRY, EXIT, FRAME, OFFSET_LIMIT, ONE, Element, f64_bits
+from crest import (
+    ARC, BLOCK_SIZE, DISPLAY_GRAINS, EDITION, EDITION_AT, ENTRY, EXIT, FRAME, LAST_NUMBER, LONGEST_ALIGNMENT,
+    LONGEST_ELEMENT, MOST_COUNTED, MOST_RECORDS, ONE, ONE_AT, PER_BLOCK, RUN_FIELDS, RUN_SIZE, UNIT_SQUARE, WIDEST_GAP,
+    WIDEST_KINK, WIDEST_OFFSET, Element, f64_bits, with_fields,
+)  # fmt: skip
 from plain_files import altered, file_refusal, line, lines, patched, raw_file
 from random_crests import Wish, half_directions, random_file, random_point
 from rows import CALL, DISPLAY, LENT, NOTE, NOWHERE, NUMBER, STORE
@@ -61,7 +64,10 @@ def known_numbers(rng):
     """Zeros, small whole numbers and halves, the rules' limits, powers of two, subnormals, infinities and nans."""
     for number in range(65):
         yield from (f64_bits(number / 2.0), f64_bits(number / 2.0) ^ SIGN)
-    limits = (1.0, 100.0, 65_535.0, float(FRAME), FRAME + 1.0, float(OFFSET_LIMIT), OFFSET_LIMIT + 1.0, 500_000.0, 3e7)
+    limits = (
+        1.0, DISPLAY_GRAINS, float(MOST_COUNTED), float(FRAME), FRAME + 1.0, float(WIDEST_OFFSET), WIDEST_OFFSET + 1.0,
+        float(LONGEST_ELEMENT), float(LONGEST_ALIGNMENT),
+    )  # fmt: skip
     for number in limits + tuple(2.0**power for power in (20, 31, 32, 51, 52, 53, 54, 61, 62, 63, 64, 1023)):
         yield from with_neighbours(number)
     for power in range(53):
@@ -100,7 +106,7 @@ def add_numbers(rows):
 
 def crests(rng):
     """Accepted crests, some at the frame's edge, and one with each refusal; the later blocks' places among them."""
-    row = lines(60)
+    row = lines(MOST_RECORDS)
     four = raw_file(row)
     yield raw_file([line(length=10_000)])
     yield raw_file([line(length=3)])
@@ -110,16 +116,18 @@ def crests(rng):
     yield raw_file([line(x=-FRAME, y=-FRAME, c=0, s=-ONE)])
     for c, s in list(half_directions())[::3]:
         yield raw_file([line(x=77, y=-5, length=400, c=c, s=s)])
-    for count in (1, 2, 5, 14, 15, 16, 30, 31, 33, 46, 60):
+    one, two, three = PER_BLOCK, 2 * PER_BLOCK, 3 * PER_BLOCK
+    for count in (1, 2, 5, one - 1, one, one + 1, two, two + 1, two + 3, three + 1, MOST_RECORDS):
         yield random_file(rng, Wish(count, longest=90))[0]
     yield four[:-1]
     yield b""
-    yield bytes(512)
-    yield patched(four, 1_024 + 77, [200])
-    yield altered(four, 512 + 484, [2])
+    yield bytes(BLOCK_SIZE)
+    yield patched(four, 2 * BLOCK_SIZE + 77, [200])
+    yield altered(four, BLOCK_SIZE + EDITION_AT, [EDITION + 1])
+    kink = WIDEST_KINK + 1
     for record, change in (
-        (37, dict(kind=0)), (20, dict(kind=7)), (59, dict(length=0)), (3, dict(c=5)), (45, dict(y=101)),
-        (30, dict(c=isqrt(2**60 - 1_000_001**2), s=1_000_001)),
+        (37, dict(kind=0)), (20, dict(kind=7)), (MOST_RECORDS - 1, dict(length=0)), (3, dict(c=5)),
+        (three, dict(y=WIDEST_GAP + 1)), (two, dict(c=isqrt(UNIT_SQUARE - kink**2), s=kink)),
     ):  # fmt: skip
         yield raw_file(row[:record] + [row[record]._replace(**change)] + row[record + 1 :])
 
@@ -153,8 +161,8 @@ def line_numbers(rng, alignment):
     """Station and offset: on the crest, at the ends and limits and one beyond; now and then not whole."""
     total = alignment.total if alignment else 1_000
     station = rng.choice((0, total, total + 1, -1, rng.randint(0, total), rng.randint(0, total), rng.randint(0, total)))
-    reach = rng.choice((0, 500, 100_000, OFFSET_LIMIT))
-    edges = OFFSET_LIMIT, -OFFSET_LIMIT, OFFSET_LIMIT + 1, -OFFSET_LIMIT - 1
+    reach = rng.choice((0, 500, 100_000, WIDEST_OFFSET))
+    edges = WIDEST_OFFSET, -WIDEST_OFFSET, WIDEST_OFFSET + 1, -WIDEST_OFFSET - 1
     offset = rng.choice((rng.randint(-reach, reach),) * 5 + edges)
     return odd_instead(rng, f64_bits(float(station)), f64_bits(float(offset)))
 
@@ -165,22 +173,22 @@ def odd_instead(rng, one, two):
 
 
 def beginning(rng):
-    """The bytes in which the run lies: fresh, nearly full, full, past that, or any; bytes 24 to 31 are any."""
+    """The bytes in which the run lies: fresh, nearly full, full, past that, or any; those after it are any."""
     choice = rng.randrange(20)
-    spare = rng.choice((0, 0, rng.randrange(65_536)))
+    spare = rng.choice((0, 0, rng.randrange(2**16)))
     if choice < 11:
-        run = bytes(10) + struct.pack("<H", spare) + bytes(12)
+        run = crest.bytes_of_run(crest.Run(spare=spare))
     elif choice < 15:
-        readings = 65_535 - rng.choice((0, 1, 2, 3, 7, 20))
+        readings = MOST_COUNTED - rng.choice((0, 1, 2, 3, 7, 20))
         answered = rng.choice((0, readings, rng.randint(0, readings)))
-        first = rng.choice((0, rng.randint(1, 18)))
+        first = rng.choice((0, rng.randint(1, LAST_NUMBER)))
         reading = rng.choice((0, rng.randint(1, readings)))
-        head = struct.pack("<HHHHHH", answered, readings - answered, rng.randint(0, 18), first, reading, spare)
-        run = head + rng.randbytes(12)
+        counts = answered, readings - answered, rng.randint(0, LAST_NUMBER), first, reading, spare
+        run = with_fields(bytes(ONE_AT) + rng.randbytes(RUN_SIZE - ONE_AT), RUN_FIELDS[:6], counts)
     else:
-        run = rng.randbytes(24)
+        run = rng.randbytes(RUN_SIZE)
         if choice > 17:  # counts that leave room
-            run = struct.pack("<HH", rng.randrange(30_000), rng.randrange(30_000)) + run[4:]
+            run = with_fields(run, RUN_FIELDS[:2], (rng.randrange(30_000), rng.randrange(30_000)))
     return run + rng.randbytes(ROOM - len(run))
 
 
@@ -199,7 +207,8 @@ def call(rng, files, few, state):
     """A call with one of a few crests on the run in these bytes: the crest's number, and the row's values."""
     sort = rng.choices((PLANE, LINE_PLACE, ACKNOWLEDGE), (45, 38, 17))[0]
     number = rng.choice(few)
-    lent = 24 if rng.randrange(16) else rng.choice((0, 1, 22, 23, 25, 26, 31, 32))
+    others = 0, 1, RUN_SIZE - 2, RUN_SIZE - 1, RUN_SIZE + 1, RUN_SIZE + 2, ROOM - 1, ROOM
+    lent = RUN_SIZE if rng.randrange(16) else rng.choice(others)
     file = files[number]
     if sort == ACKNOWLEDGE:
         one = two = number = 0
@@ -253,7 +262,7 @@ def add_histories_by_value(rows, rng, files, parts):
     met = set()
     for number in range(HISTORIES_BY_VALUE):
         state = beginning(rng)
-        run = crest.run_of(state[:24])._replace(spare=0)
+        run = crest.run_of(state[:RUN_SIZE])._replace(spare=0)
         few = rng.sample(range(len(files)), rng.randint(1, 6))
         history = []
         for _ in range(1 + number % 25):

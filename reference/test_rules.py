@@ -9,14 +9,21 @@ from fractions import Fraction
 from math import isqrt
 
 import crest
-from crest import ARC, ENTRY, EXIT, FRAME, LINE, ONE, Element, f64_bits, near
+from crest import (
+    ARC, BLOCK_SIZE, BLOCK_ZEROS, EDITION, EDITION_AT, ENTRY, EXIT, FIELDS_AT, FILE_SIZES, FIRST_STEP, FRAME, GRAINS,
+    KIND_AT, LINE, LONGEST_ALIGNMENT, LONGEST_ELEMENT, MOST_COUNTED, MOST_RECORDS, MOVE_SIZE, ONE, PAST_END, PER_BLOCK,
+    PLACE_UNIT, READING_SIZE, RECORD_LENGTH_AT, RECORD_SIZE, RECORDS_END, RESERVED, RUN_FIELDS, RUN_SIZE, STEP_DIVISOR,
+    SUM_B_AT, SUM_MODULUS, SUMS_AT, UNIT_SLACK, UNIT_SQUARE, USED_AT, WIDEST, WIDEST_GAP, WIDEST_KINK, WIDEST_OFFSET,
+    ZEROS_AT, Element, blocks_needed, f64_bits, least_radius, near, with_fields,
+)  # fmt: skip
 from examples import K, file_of
 from plain_files import altered, file_refusal, line, lines, patched, raw_file, records_of, refusal
-from random_crests import Wish, random_file, random_point, random_unit, unit_limit_pairs
+from random_crests import FAR, Wish, random_file, random_point, random_unit, unit_limit_pairs
 
 NAN = 0x7FF8000000000000
 INFINITE = 0x7FF0000000000000
 MINUS = 1 << 63
+FULL = range(PER_BLOCK, MOST_RECORDS + 1, PER_BLOCK)  # how many records fill blocks
 
 
 class Rounding(unittest.TestCase):
@@ -42,83 +49,84 @@ class Rounding(unittest.TestCase):
 
 class Blocks(unittest.TestCase):
     def setUp(self):
-        self.two = file_of(*lines(17))
-        self.four = file_of(*lines(60))
+        self.two = file_of(*lines(PER_BLOCK + 2))
+        self.four = file_of(*lines(MOST_RECORDS))
 
     def test_accepted(self):
-        for count in (1, 14, 15, 16, 30, 31, 45, 46, 59, 60):
+        for count in (1, *(full + by for full in FULL for by in (-1, 0, 1) if full + by <= MOST_RECORDS)):
             file = raw_file(lines(count))
-            self.assertEqual(len(file), 512 * -(-count // 15))
+            self.assertEqual(len(file), BLOCK_SIZE * blocks_needed(count))
             self.assertEqual(len(crest.check(file).elements), count)
 
     def test_1(self):
-        for length in (0, 1, 511, 513, 1023, 1025, 1535, 1537, 2047, 2049, 2560):
+        for length in (0, *(size + by for size in FILE_SIZES for by in (-1, 1)), FILE_SIZES[-1] + BLOCK_SIZE):
             self.assertEqual(file_refusal(bytes(length)), (1, 0))
-        self.assertEqual(file_refusal(self.four + self.four[:512]), (1, 0))
+        self.assertEqual(file_refusal(self.four + self.four[:BLOCK_SIZE]), (1, 0))
 
     def test_2_for_every_byte(self):
-        for at in range(1024):
+        for at in range(len(self.two)):
             changed = patched(self.two, at, [self.two[at] ^ 1])
-            self.assertEqual(file_refusal(changed), (2, at // 512))
+            self.assertEqual(file_refusal(changed), (2, at // BLOCK_SIZE))
 
     def test_2_for_a_swap_that_keeps_a(self):
-        swapped = patched(K, 4, [K[5], K[4]])
+        at = RECORD_LENGTH_AT
+        swapped = patched(K, at, [K[at + 1], K[at]])
         self.assertEqual(crest.sums(swapped)[0], crest.sums(K)[0])
         self.assertEqual(file_refusal(swapped), (2, 0))
 
     def test_the_sums_modulus(self):
-        block = bytes([255] * 508)
-        self.assertEqual(crest.sums(block)[0], 255 * 508 % 65_536)
-        self.assertEqual(crest.sums(block)[1], 255 * 508 * 509 // 2 % 65_536)
+        block = bytes([255] * SUMS_AT)
+        self.assertEqual(crest.sums(block)[0], 255 * SUMS_AT % SUM_MODULUS)
+        self.assertEqual(crest.sums(block)[1], 255 * SUMS_AT * (SUMS_AT + 1) // 2 % SUM_MODULUS)
 
     def test_2_for_all_blocks_before_3(self):
-        bad_edition = altered(self.two, 484, [2])
+        bad_edition = altered(self.two, EDITION_AT, [EDITION + 1])
         self.assertEqual(file_refusal(bad_edition), (3, 0))
-        self.assertEqual(file_refusal(patched(bad_edition, 512 + 510, [0, 0])), (2, 1))
+        self.assertEqual(file_refusal(patched(bad_edition, BLOCK_SIZE + SUM_B_AT, [0, 0])), (2, 1))
 
     def test_3_block_number(self):
         for block in range(4):
             for wrong in {0, 1, 2, 3, 4, 256, 65_535} - {block}:
-                self.assertEqual(
-                    file_refusal(altered(self.four, 512 * block + 480, struct.pack("<H", wrong))), (3, block)
-                )
+                at = BLOCK_SIZE * block + FIELDS_AT
+                self.assertEqual(file_refusal(altered(self.four, at, struct.pack("<H", wrong))), (3, block))
 
     def test_3_use_count(self):
-        for wrong in (0, 3, 14, 16, 17, 256, 65_535):
-            found = file_refusal(altered(self.four, 482, struct.pack("<H", wrong)))
+        for wrong in (0, 3, PER_BLOCK - 1, PER_BLOCK + 1, PER_BLOCK + 2, 256, 65_535):
+            found = file_refusal(altered(self.four, USED_AT, struct.pack("<H", wrong)))
             self.assertEqual(found, (3, 0))
-        for wrong in (0, 16, 65_535, 1):  # 1: the second record is not zero any more
-            found = file_refusal(altered(self.two, 512 + 482, struct.pack("<H", wrong)))
+        for wrong in (0, PER_BLOCK + 1, 65_535, 1):  # 1: the second record is not zero any more
+            found = file_refusal(altered(self.two, BLOCK_SIZE + USED_AT, struct.pack("<H", wrong)))
             self.assertEqual(found, (3, 1))
         # one record more than there is: a used record with kind 0
-        self.assertEqual(file_refusal(altered(self.two, 512 + 482, [3])), (4, 17))
+        self.assertEqual(file_refusal(altered(self.two, BLOCK_SIZE + USED_AT, [3])), (4, PER_BLOCK + 2))
 
     def test_3_short_block_before_the_last(self):
-        short = file_of(*lines(14)) + crest.block_made(records_of(lines(16)[15:]), 1)
+        short = file_of(*lines(PER_BLOCK - 1)) + crest.block_made(records_of(lines(PER_BLOCK + 1)[PER_BLOCK:]), 1)
         self.assertEqual(file_refusal(short), (3, 0))
 
     def test_3_edition(self):
-        for wrong in (0, 2, 3, 256, 2**31, 2**32 - 1):
-            self.assertEqual(file_refusal(altered(K, 484, struct.pack("<I", wrong))), (3, 0))
-        self.assertEqual(file_refusal(altered(self.two, 512 + 487, [1])), (3, 1))
+        for wrong in (0, EDITION + 1, EDITION + 2, 256, 2**31, 2**32 - 1):
+            self.assertEqual(file_refusal(altered(K, EDITION_AT, struct.pack("<I", wrong))), (3, 0))
+        self.assertEqual(file_refusal(altered(self.two, BLOCK_SIZE + EDITION_AT + 3, [1])), (3, 1))
 
     def test_3_zero_bytes(self):
-        for at in [*range(32, 480), *range(488, 508)]:
+        for at in [*range(RECORD_SIZE, RECORDS_END), *BLOCK_ZEROS]:
             self.assertEqual(file_refusal(altered(K, at, [1])), (3, 0), at)
-        for at in (488, 507, 64, 479):
-            self.assertEqual(file_refusal(altered(self.two, 512 + at, [255])), (3, 1))
+        for at in (BLOCK_ZEROS[0], BLOCK_ZEROS[-1], 2 * RECORD_SIZE, RECORDS_END - 1):
+            self.assertEqual(file_refusal(altered(self.two, BLOCK_SIZE + at, [255])), (3, 1))
 
     def test_3_for_all_before_4_and_least_block_first(self):
-        bad_kind = altered(self.two, 0, [0])
+        bad_kind = altered(self.two, KIND_AT, [0])
         self.assertEqual(file_refusal(bad_kind), (4, 0))
-        self.assertEqual(file_refusal(altered(bad_kind, 512 + 488, [1])), (3, 1))
-        self.assertEqual(file_refusal(altered(altered(self.two, 512 + 488, [1]), 490, [1])), (3, 0))
+        self.assertEqual(file_refusal(altered(bad_kind, BLOCK_SIZE + ZEROS_AT, [1])), (3, 1))
+        both = altered(altered(self.two, BLOCK_SIZE + ZEROS_AT, [1]), ZEROS_AT + 2, [1])
+        self.assertEqual(file_refusal(both), (3, 0))
 
 
 class Records(unittest.TestCase):
     def test_4_and_5_kinds(self):
-        for place in (0, 16, 59):
-            file = file_of(*lines(60))
+        for place in (0, PER_BLOCK + 1, MOST_RECORDS - 1):
+            file = file_of(*lines(MOST_RECORDS))
             at = crest.read_record(file, place).start
             for kind in range(256):
                 number = 0 if kind == 1 else 6 if kind in (2, 3, 4) else 5 if 5 <= kind <= 15 else 4
@@ -126,15 +134,15 @@ class Records(unittest.TestCase):
                 self.assertEqual(file_refusal(altered(file, at, [kind])), wanted)
 
     def test_4_reserved_bytes(self):
-        for at in (1, 2, 3, 28, 29, 30, 31):
+        for at in RESERVED:
             for byte in (1, 128, 255):
                 self.assertEqual(file_refusal(altered(K, at, [byte])), (4, 0))
 
     def test_kind_before_reserved_before_6_before_7(self):
-        later = altered(altered(K, 0, [7]), 2, [1])
+        later = altered(altered(K, KIND_AT, [7]), RESERVED[1], [1])
         self.assertEqual(file_refusal(later), (5, 0))
-        self.assertEqual(file_refusal(altered(later, 31, [9])), (5, 0))
-        reserved = altered(altered(K, 30, [1]), 4, struct.pack("<I", 0))
+        self.assertEqual(file_refusal(altered(later, RESERVED[-1], [9])), (5, 0))
+        reserved = altered(altered(K, RESERVED[-2], [1]), RECORD_LENGTH_AT, struct.pack("<I", 0))
         self.assertEqual(file_refusal(reserved), (4, 0))
         self.assertEqual(refusal([line(length=0, c=5)]), (6, 0))
         self.assertEqual(refusal([line(c=5)]), (7, 0))
@@ -150,7 +158,8 @@ class Records(unittest.TestCase):
         self.assertEqual(refusal(row), (8, 2))
 
     def test_6_length(self):
-        for length, wanted in ((0, 6), (1, 0), (500_000, 0), (500_001, 6), (2**31, 6), (2**32 - 1, 6)):
+        limits = (LONGEST_ELEMENT, 0), (LONGEST_ELEMENT + 1, 6)
+        for length, wanted in ((0, 6), (1, 0), *limits, (2**31, 6), (2**32 - 1, 6)):
             self.assertEqual(refusal([line(length=length)])[0], wanted)
 
     def test_6_anchor(self):
@@ -164,18 +173,18 @@ class Records(unittest.TestCase):
         def number(kind, length, radius):
             return refusal([Element(kind, length, 0, 0, ONE, 0, radius)])[0]
 
-        for radius in (-1, 1, 10_000_000, -(2**31)):
+        for radius in (-1, 1, WIDEST, -(2**31)):
             self.assertEqual(number(LINE, 10, radius), 6)
         for sign in (1, -1):
-            for length in (1, 77, 500_000):
+            for length in (1, 77, LONGEST_ELEMENT):
                 self.assertEqual(number(ARC, length, sign * 2 * length), 0)
                 self.assertEqual(number(ARC, length, sign * (2 * length - 1)), 6)
                 for kind in (ENTRY, EXIT):
                     self.assertEqual(number(kind, length, sign * length), 0)
                     self.assertEqual(number(kind, length, sign * (length - 1)), 6)
                 for kind in (ARC, ENTRY, EXIT):
-                    self.assertEqual(number(kind, length, sign * 10_000_000), 0)
-                    self.assertEqual(number(kind, length, sign * 10_000_001), 6)
+                    self.assertEqual(number(kind, length, sign * WIDEST), 0)
+                    self.assertEqual(number(kind, length, sign * (WIDEST + 1)), 6)
                     self.assertEqual(number(kind, length, 0), 6)
         self.assertEqual(number(ARC, 1, -(2**31)), 6)
 
@@ -185,24 +194,25 @@ class Records(unittest.TestCase):
             for pair in ((c, s), (s, c), (-c, s), (c, -s), (-s, -c)):
                 self.assertEqual(refusal([line(c=pair[0], s=pair[1])])[0], wanted)
                 self.assertEqual(crest.stake_out((0, 0), (0, 0), pair).number, wanted)
-        self.assertEqual((ONE + 1) ** 2 - 2**60, 2**31 + 1)
+        self.assertEqual((ONE + 1) ** 2 - UNIT_SQUARE, UNIT_SLACK + 1)
         self.assertEqual(refusal([line(c=ONE + 1)])[0], 7)
         self.assertEqual(refusal([line(c=ONE - 1)])[0], 0)
         self.assertEqual(refusal([line(c=-(2**31), s=-(2**31))])[0], 7)
 
     def test_8_gap(self):
-        for place in (0, 14, 58):
+        gap, more = WIDEST_GAP, WIDEST_GAP + 1
+        for place in (0, PER_BLOCK - 1, MOST_RECORDS - 2):
             for dx, dy, wanted in (
-                (100, 100, 0), (-100, -100, 0), (100, -100, 0), (101, 0, 8), (-101, 0, 8), (0, 101, 8), (0, -101, 8)
+                (gap, gap, 0), (-gap, -gap, 0), (gap, -gap, 0), (more, 0, 8), (-more, 0, 8), (0, more, 8), (0, -more, 8)
             ):
-                row = lines(60)
+                row = lines(MOST_RECORDS)
                 row = row[: place + 1] + [e._replace(x=e.x + dx, y=e.y + dy) for e in row[place + 1 :]]
                 self.assertEqual(refusal(row), (wanted, place if wanted else 0))
 
     def test_9_kink(self):
-        for size, wanted in ((1_000_000, 0), (1_000_001, 9)):
+        for size, wanted in ((WIDEST_KINK, 0), (WIDEST_KINK + 1, 9)):
             for sign in (1, -1):
-                other = isqrt(2**60 - size * size)
+                other = isqrt(UNIT_SQUARE - size * size)
                 row = [line(), line(x=1000, c=other, s=sign * size)]
                 self.assertEqual(refusal(row), (wanted, 0))
                 row = [line(c=0, s=ONE), line(y=1000, c=sign * size, s=other)]
@@ -210,17 +220,19 @@ class Records(unittest.TestCase):
 
     def test_9_after_a_curve(self):
         # the last direction of a curve is the plane tangent at s = L, as it is
-        arc = Element(ARC, 500_000, 0, 0, ONE, 0, 1_000_000)
-        end, tangent = crest.position(arc, 500_000), crest.direction(arc, 500_000)
-        self.assertNotEqual(tangent[0] ** 2 + tangent[1] ** 2, 2**60)
-        for size, wanted in ((1_000_000, 0), (1_000_001, 9)):
+        length = LONGEST_ELEMENT
+        arc = Element(ARC, length, 0, 0, ONE, 0, 2 * length)
+        end, tangent = crest.position(arc, length), crest.direction(arc, length)
+        self.assertNotEqual(tangent[0] ** 2 + tangent[1] ** 2, UNIT_SQUARE)
+        for size, wanted in ((WIDEST_KINK, 0), (WIDEST_KINK + 1, 9)):
             s = tangent[1] + size
-            row = [arc, line(*end, c=isqrt(2**60 - s * s), s=s)]
+            row = [arc, line(*end, c=isqrt(UNIT_SQUARE - s * s), s=s)]
             self.assertEqual(refusal(row), (wanted, 0))
 
     def test_8_before_9_join_by_join(self):
-        bent = dict(c=isqrt(2**60 - 2_000_000**2), s=2_000_000)
-        self.assertEqual(refusal([line(), line(x=1101, **bent)]), (8, 0))
+        kink = 2 * WIDEST_KINK
+        bent = dict(c=isqrt(UNIT_SQUARE - kink**2), s=kink)
+        self.assertEqual(refusal([line(), line(x=1000 + WIDEST_GAP + 1, **bent)]), (8, 0))
         self.assertEqual(refusal([line(), line(x=1000, **bent), line(x=9000, **bent)]), (9, 0))
         self.assertEqual(refusal([line(), line(x=1000), line(x=9000), line(x=9000)]), (8, 1))
 
@@ -235,16 +247,16 @@ class Records(unittest.TestCase):
 
 class ReaderAndWriter(unittest.TestCase):
     def test_parts(self):
-        row = lines(60)
+        row = lines(MOST_RECORDS)
         file = file_of(*row)
-        for number in range(60):
+        for number in range(MOST_RECORDS):
             part = crest.read_record(file, number)
             self.assertEqual(part[:2], (0, 0))
             self.assertEqual(file[part.start : part.end], crest.record_of(row[number]))
-        self.assertEqual(crest.read_record(file, 15).start, 512)
+        self.assertEqual(crest.read_record(file, PER_BLOCK).start, BLOCK_SIZE)
 
     def test_15_record_number(self):
-        for number, wanted in ((0, 0), (1, 15), (14, 15), (60, 15), (2**32, 15)):
+        for number, wanted in ((0, 0), (1, 15), (PER_BLOCK - 1, 15), (MOST_RECORDS, 15), (2**32, 15)):
             self.assertEqual(crest.read_record(K, number).number, wanted)
         self.assertEqual(crest.read_record(K, 1), (15, 0, 0, 0))
         self.assertEqual(crest.read_record(K, -1), (15, 0, 0, 0))
@@ -257,32 +269,34 @@ class ReaderAndWriter(unittest.TestCase):
 
     def test_17(self):
         room = bytes(range(256)) * 8
-        good = records_of(lines(60))
-        for records in (b"", good[:31], good[:33], good + good[:32], good[:-1], good + b"\0"):
+        good = records_of(lines(MOST_RECORDS))
+        size = RECORD_SIZE
+        for records in (b"", good[: size - 1], good[: size + 1], good + good[:size], good[:-1], good + b"\0"):
             self.assertEqual(crest.write(records, room), (crest.Refusal(17), room))
-        self.assertEqual(crest.write(good[:32], room)[0], None)
+        self.assertEqual(crest.write(good[:size], room)[0], None)
         self.assertEqual(crest.write(good, room)[0], None)
 
     def test_writer_order_17_then_4_to_9_then_18(self):
-        row = lines(16)
-        row[15] = row[15]._replace(x=0)
+        row = lines(PER_BLOCK + 1)
+        row[PER_BLOCK] = row[PER_BLOCK]._replace(x=0)
         records = records_of(row)
         self.assertEqual(crest.write(records + b"\0", b"")[0], (17, 0))
-        self.assertEqual(crest.write(records, b"")[0], (8, 14))
+        self.assertEqual(crest.write(records, b"")[0], (8, PER_BLOCK - 1))
+        kink = WIDEST_KINK + 1
         for number, change in (
-            (4, dict(kind=0)), (5, dict(kind=9)), (6, dict(length=0)), (7, dict(c=1)), (8, dict(y=101)),
-            (9, dict(c=isqrt(2**60 - 1_000_001**2), s=1_000_001)),
+            (4, dict(kind=0)), (5, dict(kind=9)), (6, dict(length=0)), (7, dict(c=1)), (8, dict(y=WIDEST_GAP + 1)),
+            (9, dict(c=isqrt(UNIT_SQUARE - kink**2), s=kink)),
         ):
-            row = lines(16)
+            row = lines(PER_BLOCK + 1)
             row[9] = row[9]._replace(**change)
             place = 8 if number in (8, 9) else 9
             room = bytes([7]) * 100
             self.assertEqual(crest.write(records_of(row), room), (crest.Refusal(number, place), room))
 
     def test_18_and_the_rest_of_the_room(self):
-        for count in (1, 15, 16, 60):
+        for count in (1, PER_BLOCK, PER_BLOCK + 1, MOST_RECORDS):
             records = records_of(lines(count))
-            need = 512 * -(-count // 15)
+            need = BLOCK_SIZE * blocks_needed(count)
             for size in (0, need - 1):
                 room = bytes([171]) * size
                 self.assertEqual(crest.write(records, room), (crest.Refusal(18), room))
@@ -294,7 +308,7 @@ class ReaderAndWriter(unittest.TestCase):
 
     def test_round_trips(self):
         rng = random.Random(6)
-        for count in (1, 2, 15, 16, 31, 60):
+        for count in (1, 2, PER_BLOCK, PER_BLOCK + 1, 2 * PER_BLOCK + 1, MOST_RECORDS):
             file, alignment = random_file(rng, Wish(count, longest=1000))
             parts = [crest.read_record(file, n) for n in range(count)]
             records = b"".join(file[p.start : p.end] for p in parts)
@@ -302,6 +316,7 @@ class ReaderAndWriter(unittest.TestCase):
             self.assertEqual(crest.write(records, bytes(len(file))), (None, file))
 
     def test_example_file(self):
+        # the layout in figures
         wanted = bytearray(512)
         wanted[0:28] = struct.pack("<B3xIiiiii", 1, 10_000, 0, 0, ONE, 0, 0)
         wanted[482] = wanted[484] = 1
@@ -318,14 +333,15 @@ class ReaderAndWriter(unittest.TestCase):
 
 class Stations(unittest.TestCase):
     def setUp(self):
-        self.file = file_of(line(), line(x=1100, length=5), line(x=1600, length=1))
+        self.second = 1000 + WIDEST_GAP
+        self.file = file_of(line(), line(x=self.second, length=5), line(x=self.second + 500, length=1))
 
     def test_join_belongs_to_the_later(self):
         alignment = crest.check(self.file)
         self.assertEqual(alignment.total, 16)
         found = [crest.element_at(alignment, s) for s in (0, 9, 10, 14, 15, 16)]
         self.assertEqual(found, [(0, 0), (0, 9), (1, 0), (1, 4), (2, 0), (2, 1)])
-        self.assertEqual(crest.position_and_direction(self.file, 10), (0, 0, 1100, 0, ONE, 0))
+        self.assertEqual(crest.position_and_direction(self.file, 10), (0, 0, self.second, 0, ONE, 0))
 
     def test_15_station(self):
         for station, wanted in ((-1, 15), (0, 0), (16, 0), (17, 15), (2**70, 15)):
@@ -340,8 +356,9 @@ class Stations(unittest.TestCase):
         self.assertEqual(crest.inverse(file, 1, 0), (11, 0, 0, 0))
 
     def test_inverse_limits(self):
-        for offset, wanted in ((20_000_000, 0), (20_000_001, 15), (-20_000_000, 0), (-20_000_001, 15)):
-            self.assertEqual(crest.inverse(K, 5, offset).number, wanted)
+        for sign in (1, -1):
+            self.assertEqual(crest.inverse(K, 5, sign * WIDEST_OFFSET).number, 0)
+            self.assertEqual(crest.inverse(K, 5, sign * (WIDEST_OFFSET + 1)).number, 15)
         high = file_of(line(y=FRAME - 300))
         self.assertEqual(crest.inverse(high, 5, 300), (0, 0, 500, FRAME))
         self.assertEqual(crest.inverse(high, 5, 301), (11, 0, 0, 0))
@@ -382,25 +399,26 @@ class Points(unittest.TestCase):
             self.assertEqual(crest.station_and_offset(file, *point), (11, 0, 0, 0, 0, 0))
 
     def test_12_before_13_and_14(self):
-        self.assertEqual(self.number(-20_000_000, 0), 13)
-        self.assertEqual(self.number(-20_000_001, 0), 12)
-        self.assertEqual(self.number(21_000_000, 0), 14)
-        self.assertEqual(self.number(21_000_001, 0), 12)
-        self.assertEqual(self.number(500_000, -20_000_000), 0)
-        self.assertEqual(self.number(500_000, -20_000_001), 12)
-        # 12,000,000 and 16,000,000 have 20,000,000 between them
-        self.assertEqual(self.number(-12_000_000, 16_000_000), 13)
-        self.assertEqual(self.number(-12_000_000, 16_000_001), 12)
+        end = 1_000_000  # of K
+        self.assertEqual(self.number(-FAR, 0), 13)
+        self.assertEqual(self.number(-FAR - 1, 0), 12)
+        self.assertEqual(self.number(end + FAR, 0), 14)
+        self.assertEqual(self.number(end + FAR + 1, 0), 12)
+        self.assertEqual(self.number(end // 2, -FAR), 0)
+        self.assertEqual(self.number(end // 2, -FAR - 1), 12)
+        three, four = FAR * 3 // 5, FAR * 4 // 5  # FAR lies between them
+        self.assertEqual(self.number(-three, four), 13)
+        self.assertEqual(self.number(-three, four + 1), 12)
 
     def test_13_and_14_at_the_limit(self):
-        rows = [(-100, 7, 0), (-101, 7, 13), (1_000_100, 7, 0), (1_000_101, 7, 14)]
-        for x, y, wanted in rows:
-            self.assertEqual(self.number(x, y), wanted)
+        end, past = 1_000_000, PAST_END + 1  # the end of K
+        for x, wanted in ((-PAST_END, 0), (-past, 13), (end + PAST_END, 0), (end + past, 14)):
+            self.assertEqual(self.number(x, 7), wanted)
         self.assertEqual(crest.station_and_offset(K, -101, 0), (13, 0, 0, 0, 0, 0))
 
     def test_residual_inside_is_only_reported(self):
-        # neighbours 200 grains apart at a join with a gap: residual above 100 away from the ends
-        file = file_of(line(), line(x=1100, y=100))
+        # neighbours 2 mm apart at a join with a gap: residual above PAST_END away from the ends
+        file = file_of(line(), line(x=1000 + WIDEST_GAP, y=WIDEST_GAP))
         answer = crest.station_and_offset(file, 1040, -400)
         self.assertEqual(answer[:5], (0, 0, 9, -400, 140))
 
@@ -418,11 +436,13 @@ class Points(unittest.TestCase):
         self.assertEqual(crest.inverse(file, answer.station, answer.offset).number, 15)
 
     def test_count(self):
-        for length, first in ((1, 2), (999, 2), (1000, 2), (1001, 3), (2000, 3), (10_000, 11), (10_001, 12)):
+        step = FIRST_STEP
+        rows = [(1, 2), (step - 1, 2), (step, 2), (step + 1, 3), (2 * step, 3), (10 * step, 11), (10 * step + 1, 12)]
+        for length, first in rows:
             alignment = crest.check(file_of(line(length=length)))
             self.assertEqual(len(crest.first_visits(alignment.total)), first)
         # far off, the second pass leaves out much; refused, so no count
-        self.assertEqual(crest.station_and_offset(K, 500_000, 20_000_001).count, 0)
+        self.assertEqual(crest.station_and_offset(K, 500_000, FAR + 1).count, 0)
 
     def test_walk_by_hand(self):
         # two lines of 4 and 3 mm, point on station 0: 0, 1, 2, then beyond 3 to the join at 4, then out
@@ -458,9 +478,9 @@ class StakeOut(unittest.TestCase):
         self.assertEqual(crest.stake_out((FRAME, FRAME), (-FRAME, -FRAME), bad), (7, 0, 0, 0))
 
     def test_c_call(self):
-        room = bytes(range(8))
+        room = bytes(range(MOVE_SIZE))
         self.assertEqual(crest.crest_stake_out(0, 0, 100, 200, 0, ONE, room), (0, struct.pack("<ii", 200, -100)))
-        for size in (0, 7, 9, 24):
+        for size in (0, MOVE_SIZE - 1, MOVE_SIZE + 1, RUN_SIZE):
             found = crest.crest_stake_out(FRAME + 1, 0, 0, 0, 0, 0, bytes([9]) * size)
             self.assertEqual(found, (18, bytes([9]) * size))
         self.assertEqual(crest.crest_stake_out(0, FRAME + 1, 0, 0, 0, 0, room), (11, room))
@@ -522,7 +542,7 @@ class Readings(unittest.TestCase):
             self.assertEqual(self.answer(sort, 0.0, -1e300).number, far)
             self.assertEqual(self.answer(sort, 2.0**64, 0.0).number, far)  # not taken modulo 2^64
             self.assertEqual(self.answer(sort, -0.0, -0.0).number, 0)
-        self.assertEqual(self.answer(place, 10_000.0, 2e7).number, 0)
+        self.assertEqual(self.answer(place, 10_000.0, float(WIDEST_OFFSET)).number, 0)
         self.assertEqual(self.answer(place, 10_001.0, 0.0).number, 15)
         self.assertEqual(self.answer(place, -1.0, 0.0).number, 15)
 
@@ -532,7 +552,7 @@ class Readings(unittest.TestCase):
         self.assertEqual(plane, (0, 0, (5, 300, 12), crest.station_and_offset(K, 512, 300).count, (5.0, 3.0)))
         self.assertEqual(self.answer(crest.LinePlace, 5.0, 300.0), (0, 0, (500, 300, 0), 0, zero))
         self.assertEqual(self.answer(crest.PlanePoint, -101.0, 0.0), (13, 0, (0, 0, 0), 0, zero))
-        self.assertEqual(crest.display_pair(30_000_000, -1), (30_000_000.0, -0.01))
+        self.assertEqual(crest.display_pair(LONGEST_ALIGNMENT, -1), (float(LONGEST_ALIGNMENT), -0.01))
         self.assertEqual(f64_bits(crest.display_pair(0, 0)[1]), 0)
         self.assertEqual(f64_bits(crest.display_pair(0, 7)[1]), f64_bits(0.07))
 
@@ -545,7 +565,7 @@ class Runs(unittest.TestCase):
 
     def test_history(self):
         run = crest.FRESH
-        self.assertEqual(crest.bytes_of_run(run), bytes(24))
+        self.assertEqual(crest.bytes_of_run(run), bytes(RUN_SIZE))
         run = crest.run_after(run, self.answered)
         self.assertEqual(run, (1, 0, 0, 0, 0, 0, (1, -2, 3)))
         run = crest.run_after(run, self.refused(13))
@@ -560,7 +580,7 @@ class Runs(unittest.TestCase):
         self.assertEqual(run, (2, 3, 12, 12, 5, 0, (0, 0, 0)))
 
     def test_c_history(self):
-        value, run = crest.crest_plane_reading(K, f64_bits(512.0), f64_bits(300.0), bytes(24))
+        value, run = crest.crest_plane_reading(K, f64_bits(512.0), f64_bits(300.0), bytes(RUN_SIZE))
         self.assertEqual((value, struct.unpack("<6H3i", run)), (0, (1, 0, 0, 0, 0, 0, 5, 300, 12)))
         value, run = crest.crest_plane_reading(K, f64_bits(-101.0), 0, run)
         self.assertEqual((value, struct.unpack("<6H3i", run)), (13, (1, 1, 13, 13, 2, 0, 0, 0, 0)))
@@ -569,50 +589,48 @@ class Runs(unittest.TestCase):
         row = lines(20)
         row[18] = row[18]._replace(c=0)
         value, run = crest.crest_line_reading(raw_file(row), NAN, NAN, run)
-        self.assertEqual((value, struct.unpack("<6H3i", run)), (7 + 256 * 18, (2, 2, 7, 13, 2, 0, 0, 0, 0)))
+        self.assertEqual((value, struct.unpack("<6H3i", run)), (7 + PLACE_UNIT * 18, (2, 2, 7, 13, 2, 0, 0, 0, 0)))
         value, run = crest.crest_acknowledge(run)
         self.assertEqual((value, struct.unpack("<6H3i", run)), (0, (2, 2, 7, 0, 0, 0, 0, 0, 0)))
         value, run = crest.crest_plane_reading(K, f64_bits(0.5), NAN, run)
         self.assertEqual((value, struct.unpack("<6H3i", run)), (10, (2, 3, 10, 10, 5, 0, 0, 0, 0)))
 
     def test_18(self):
-        for size in (0, 23, 25, 48):
+        for size in (0, RUN_SIZE - 1, RUN_SIZE + 1, 2 * RUN_SIZE):
             run = bytes([200]) * size
             self.assertEqual(crest.crest_plane_reading(b"", NAN, NAN, run), (18, run))
             self.assertEqual(crest.crest_line_reading(b"", NAN, NAN, run), (18, run))
             self.assertEqual(crest.crest_acknowledge(run), (18, run))
 
     def test_16_at_the_limit(self):
-        for answered, refused in ((65_535, 0), (0, 65_535), (1, 65_534), (65_535, 65_535), (65_535, 1)):
+        full, less = MOST_COUNTED, MOST_COUNTED - 1
+        for answered, refused in ((full, 0), (0, full), (1, less), (full, full), (full, 1)):
             run = struct.pack("<6H3i", answered, refused, 3, 0, 9, 77, -1, 2, -3)
             self.assertEqual(crest.crest_plane_reading(b"", NAN, 0, run), (16, run))
             self.assertEqual(crest.crest_line_reading(K, 0, 0, run), (16, run))
-        run = struct.pack("<6H3i", 65_534, 0, 3, 0, 9, 77, -1, 2, -3)
+        run = struct.pack("<6H3i", less, 0, 3, 0, 9, 77, -1, 2, -3)
         value, after = crest.crest_plane_reading(K, NAN, 0, run)
-        self.assertEqual((value, struct.unpack("<6H3i", after)), (10, (65_534, 1, 10, 10, 65_535, 77, 0, 0, 0)))
-        run = struct.pack("<6H3i", 65_534, 0, 3, 0, 9, 77, -1, 2, -3)
+        self.assertEqual((value, struct.unpack("<6H3i", after)), (10, (less, 1, 10, 10, full, 77, 0, 0, 0)))
         value, after = crest.crest_line_reading(K, 0, 0, run)
-        self.assertEqual((value, struct.unpack("<6H3i", after)), (0, (65_535, 0, 0, 0, 9, 77, 0, 0, 0)))
+        self.assertEqual((value, struct.unpack("<6H3i", after)), (0, (full, 0, 0, 0, 9, 77, 0, 0, 0)))
         self.assertEqual(crest.crest_line_reading(K, 0, 0, after), (16, after))
         # a full run can be acknowledged
-        full = struct.pack("<6H3i", 65_535, 65_535, 3, 8, 9, 77, -1, 2, -3)
-        self.assertEqual(
-            crest.crest_acknowledge(full), (0, struct.pack("<6H3i", 65_535, 65_535, 3, 0, 0, 77, -1, 2, -3))
-        )
+        run = struct.pack("<6H3i", full, full, 3, 8, 9, 77, -1, 2, -3)
+        self.assertEqual(crest.crest_acknowledge(run), (0, struct.pack("<6H3i", full, full, 3, 0, 0, 77, -1, 2, -3)))
 
     def test_other_bytes_are_taken_as_they_spell(self):
         rng = random.Random(8)
         for _ in range(500):
-            run = rng.randbytes(24)
+            run = rng.randbytes(RUN_SIZE)
             if rng.randrange(2):  # counts that leave room
-                run = struct.pack("<HH", rng.randrange(30_000), rng.randrange(30_000)) + run[4:]
-            if rng.randrange(2):
-                run = run[:6] + bytes(2) + run[8:]
+                run = with_fields(run, RUN_FIELDS[:2], (rng.randrange(30_000), rng.randrange(30_000)))
+            if rng.randrange(2):  # no first refusal
+                run = with_fields(run, RUN_FIELDS[3:4], (0,))
             self.assertEqual(crest.bytes_of_run(crest.run_of(run)), run)
             value, after = crest.crest_plane_reading(K, f64_bits(-101.0), 0, run)
             self.assertEqual(after[10:12], run[10:12])
             answered, refused, _, first, reading, spare = struct.unpack("<6H", run[:12])
-            if answered + refused >= 65_535:
+            if answered + refused >= MOST_COUNTED:
                 self.assertEqual((value, after), (16, run))
                 continue
             if first == 0:
@@ -624,9 +642,9 @@ class Runs(unittest.TestCase):
 
     def test_counting_to_the_full_run(self):
         run = crest.FRESH
-        for number in range(65_535):
+        for number in range(MOST_COUNTED):
             outcome, run = crest.take_reading(run, crest.Refusal(1), crest.PlanePoint(0, 0))
-        self.assertEqual(run, (0, 65_535, 1, 1, 1, 0, (0, 0, 0)))
+        self.assertEqual(run, (0, MOST_COUNTED, 1, 1, 1, 0, (0, 0, 0)))
         outcome, after = crest.take_reading(run, crest.check(K), crest.PlanePoint(0, 0))
         self.assertEqual((outcome, after), ((16, 0, (0, 0, 0), 0, (0.0, 0.0)), run))
 
@@ -635,25 +653,26 @@ class CValues(unittest.TestCase):
     def test_check(self):
         self.assertEqual(crest.crest_check(K), 0)
         self.assertEqual(crest.crest_check(b""), 1)
-        four = file_of(*lines(60))
-        self.assertEqual(crest.crest_check(patched(four, 1536, [9])), 2 + 256 * 3)
-        row = lines(60)
-        row[59] = row[59]._replace(x=0)
-        self.assertEqual(crest.crest_check(raw_file(row)), 8 + 256 * 58)
+        four = file_of(*lines(MOST_RECORDS))
+        self.assertEqual(crest.crest_check(patched(four, 3 * BLOCK_SIZE, [9])), 2 + PLACE_UNIT * 3)
+        row = lines(MOST_RECORDS)
+        row[-1] = row[-1]._replace(x=0)
+        self.assertEqual(crest.crest_check(raw_file(row)), 8 + PLACE_UNIT * (MOST_RECORDS - 2))
 
     def test_write(self):
-        room = bytes([5]) * 600
-        self.assertEqual(crest.crest_write(K[:32], room), (0, K + room[512:]))
-        self.assertEqual(crest.crest_write(K[:32], room[:511]), (18, room[:511]))
-        self.assertEqual(crest.crest_write(K[:31], room), (17, room))
+        record, room = K[:RECORD_SIZE], bytes([5]) * (BLOCK_SIZE + 88)
+        small = room[: BLOCK_SIZE - 1]
+        self.assertEqual(crest.crest_write(record, room), (0, K + room[BLOCK_SIZE:]))
+        self.assertEqual(crest.crest_write(record, small), (18, small))
+        self.assertEqual(crest.crest_write(record[:-1], room), (17, room))
         row = lines(3)
         row[2] = row[2]._replace(kind=15)
-        self.assertEqual(crest.crest_write(records_of(row), room), (5 + 256 * 2, room))
+        self.assertEqual(crest.crest_write(records_of(row), room), (5 + PLACE_UNIT * 2, room))
 
 
 class Program(unittest.TestCase):
     def test_no_readings(self):
-        for tail in (b"", bytes(15)):
+        for tail in (b"", bytes(READING_SIZE - 1)):
             wanted = "reading station offset residual\nanswered 0 refused 0 first none\n"
             self.assertEqual(crest.program_text(K, tail), wanted)
 
@@ -667,9 +686,11 @@ class Program(unittest.TestCase):
         self.assertEqual(crest.program_text(b"", struct.pack("<4d", 0, 0, 0.5, 0)), wanted)
 
     def test_full_run(self):
-        text = crest.program_text(b"", bytes(16 * 65_537)).splitlines()
-        self.assertEqual(text[65_535:], [
-            "65535 refused 1", "65536 refused 16", "65537 refused 16", "answered 0 refused 65535 first 1 1"
+        full = MOST_COUNTED
+        text = crest.program_text(b"", bytes(READING_SIZE * (full + 2))).splitlines()
+        self.assertEqual(text[full:], [
+            f"{full} refused 1", f"{full + 1} refused 16", f"{full + 2} refused 16",
+            f"answered 0 refused {full} first 1 1",
         ])
 
 
@@ -683,15 +704,15 @@ class Series(unittest.TestCase):
         if element.kind == ARC:
             q = Fraction(s, radius) ** 2
             return (
-                100 * s * (1 - q / 6 + q * q / 120),
-                50 * s * Fraction(s, radius) * (1 - q / 12 + q * q / 360),
+                GRAINS * s * (1 - q / 6 + q * q / 120),
+                GRAINS // 2 * s * Fraction(s, radius) * (1 - q / 12 + q * q / 360),
             )
         l = length - s if element.kind == EXIT else s
         tau = Fraction(l * l, 2 * radius * length)
         q = tau * tau
         return (
-            100 * l * (1 - q / 10 + q * q / 216),
-            100 * l * tau * (1 - q / 14 + q * q / 440) / 3,
+            GRAINS * l * (1 - q / 10 + q * q / 216),
+            GRAINS * l * tau * (1 - q / 14 + q * q / 440) / 3,
         )
 
     @staticmethod
@@ -699,17 +720,17 @@ class Series(unittest.TestCase):
         rng = random.Random(7)
         for kind in (ARC, ENTRY, EXIT):
             for sign in (1, -1):
-                for length in (1, 2, 3, 999, 123_457, 499_999, 500_000):
-                    least = 2 * length if kind == ARC else length
-                    for size in {least, least + 1, 3 * least, 10_000_000}:
-                        element = Element(kind, length, 0, 0, ONE, 0, sign * min(size, 10_000_000))
+                for length in (1, 2, 3, 999, 123_457, LONGEST_ELEMENT - 1, LONGEST_ELEMENT):
+                    least = least_radius(kind, length)
+                    for size in {least, least + 1, 3 * least, WIDEST}:
+                        element = Element(kind, length, 0, 0, ONE, 0, sign * min(size, WIDEST))
                         for s in {0, 1, length // 3, length // 2, length - 1, length}:
                             yield element, s
                 for _ in range(700):
-                    length = rng.randint(1, rng.choice((50, 5_000, 500_000)))
-                    least = 2 * length if kind == ARC else length
-                    size = rng.randint(least, rng.choice((2 * least, 10_000_000)))
-                    element = Element(kind, length, 0, 0, ONE, 0, sign * min(size, 10_000_000))
+                    length = rng.randint(1, rng.choice((50, 5_000, LONGEST_ELEMENT)))
+                    least = least_radius(kind, length)
+                    size = rng.randint(least, rng.choice((2 * least, WIDEST)))
+                    element = Element(kind, length, 0, 0, ONE, 0, sign * min(size, WIDEST))
                     yield element, rng.randint(0, length)
 
     def test_two_grains(self):
@@ -725,7 +746,7 @@ class Series(unittest.TestCase):
         self.assertGreater(seen, 4000)
         self.assertLessEqual(worst, 2)
 
-    def test_neighbours_lie_within_the_pace(self):
+    def test_neighbours_lie_within_the_step(self):
         rng = random.Random(2)
         for element, s in self.samples():
             if s == element.length:
@@ -733,7 +754,7 @@ class Series(unittest.TestCase):
             c, sine = random_unit(rng)
             element = element._replace(c=c, s=sine)
             (x, y), (x2, y2) = crest.position(element, s), crest.position(element, s + 1)
-            self.assertLess((x - x2) ** 2 + (y - y2) ** 2, crest.STEP_PACE**2)
+            self.assertLess((x - x2) ** 2 + (y - y2) ** 2, STEP_DIVISOR**2)
 
 
 if __name__ == "__main__":

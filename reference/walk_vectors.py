@@ -4,12 +4,13 @@ import random
 
 import crest
 import random_crests
-from crest import ARC, ENTRY, EXIT, FRAME, LINE, ONE
+from crest import (
+    ARC, ENTRY, EXIT, FIRST_STEP, FRAME, GRAINS, LINE, LONGEST_ELEMENT, MOST_RECORDS, ONE, PAST_END, PER_BLOCK,
+    WIDEST_KINK,
+)  # fmt: skip
 from plain_files import line, raw_file
-from random_crests import AXES, Wish, beside, random_file, random_point
+from random_crests import AXES, FAR, Wish, beside, random_file, random_point
 from rows import POINT
-
-FAR = 20_000_000  # grains: its square is the farthest D answered
 
 
 # ---------------------------------------------------------------------------
@@ -26,7 +27,7 @@ def outside(rng):
 
 def past_the_ends(alignment, left):
     """Points whose residual at an end is exactly on the limit of 13 or 14, and one beyond, that far to the left."""
-    for station, limits in ((0, (-100, -101)), (alignment.total, (100, 101))):
+    for station, limits in ((0, (-PAST_END, -PAST_END - 1)), (alignment.total, (PAST_END, PAST_END + 1))):
         for limit in limits:
             x, y = beside(alignment, station, limit, left)
             near = [(x + i, y + j) for i in (0, 1, -1, 2, -2) for j in (0, 1, -1, 2, -2)]
@@ -67,26 +68,31 @@ def marked_line(rng):
     file = raw_file([line(length=10_000)])
     points = [(512, 300), (550, 300), (-100, 0), (-101, 0), (1_000_100, 0), (1_000_101, 0), (500_000, FAR)]
     points += [(500_000, FAR + 1), (0, 0), (1_000_000, 0), (500_000, -FAR), (500_000, -FAR - 1), (-1, FAR), (-1, -FAR)]
-    points += [(-FAR, 0), (-FAR - 1, 0), (-12_000_000, 16_000_000), (-12_000_000, 16_000_001), (0, FAR), (0, FAR + 1)]
-    points += [(1_000_001, FAR), (13_000_000, 16_000_000), (13_000_001, 16_000_000), (21_000_000, 0), (21_000_001, 0)]
+    three, four = FAR * 3 // 5, FAR * 4 // 5  # FAR lies between them
+    points += [(-FAR, 0), (-FAR - 1, 0), (-three, four), (-three, four + 1), (0, FAR), (0, FAR + 1)]
+    end = 1_000_000
+    points += [(end + 1, FAR), (end + three, four), (end + three + 1, four), (end + FAR, 0), (end + FAR + 1, 0)]
     points += [(x, 0) for x in range(49, 153, 17)] + [(x, -7) for x in range(999_900, 1_000_104, 51)]
     yield file, points + [(x, y) for x in (-FRAME, FRAME) for y in (-FRAME, FRAME)] + outside(rng)
     yield raw_file([line(length=3)]), [(0, 0), (150, 0), (300, 0), (301, 5), (400, 5), (401, 5)]
 
 
 def axis_lines(rng):
-    """Single lines along each axis with T at and next to multiples of 1,000: ends, ties, least D on its limit."""
+    """Single lines along each axis with T at and next to multiples of FIRST_STEP: ends, ties, least D on its limit."""
+    steps = [step + by for step in (FIRST_STEP, 2 * FIRST_STEP) for by in (-1, 0, 1)]
+    half, past = GRAINS // 2, PAST_END + 1
+    seven, many = FAR * 7 // 25, FAR * 24 // 25  # FAR lies between them
     for c, s in AXES:
-        for length in (1, 2, 3, 999, 1_000, 1_001, 1_999, 2_000, 2_001, 2_500):
+        for length in (1, 2, 3, *steps, 2_500):
             x, y = rng.randint(-FRAME // 2, FRAME // 2), rng.randint(-FRAME // 2, FRAME // 2)
             file = raw_file([line(x=x, y=y, length=length, c=c, s=s)])
             c1, s1 = c // ONE, s // ONE
-            points = []
+            end, points = GRAINS * length, []
             for along, left in (
-                (0, FAR), (0, -FAR), (-1, FAR), (0, FAR + 1), (100 * length, -FAR), (100 * length + 1, FAR),
-                (50, 9), (150, -9), (50 * length, 777), (100 * length - 50, 3), (-100, 5), (-101, 5),
-                (100 * length + 100, -5), (100 * length + 101, -5), (rng.randint(0, 100 * length), FAR - 1),
-                (-5_600_000, 19_200_000), (-5_600_000, 19_200_001),
+                (0, FAR), (0, -FAR), (-1, FAR), (0, FAR + 1), (end, -FAR), (end + 1, FAR),
+                (half, 9), (GRAINS + half, -9), (half * length, 777), (end - half, 3), (-PAST_END, 5), (-past, 5),
+                (end + PAST_END, -5), (end + past, -5), (rng.randint(0, end), FAR - 1),
+                (-seven, many), (-seven, many + 1),
             ):  # fmt: skip
                 points.append((x + along * c1 - left * s1, y + along * s1 + left * c1))
             yield file, points
@@ -103,7 +109,8 @@ def halves(rng):
             x, y = crest.position_at(alignment, rng.randint(0, alignment.total))
             by = 2 * rng.randint(-24, 23) + 1
             points += [(x + by, y), (x, y + by)]
-        for station, by in ((0, 201), (0, 203), (alignment.total, 199), (alignment.total, 201)):
+        total, twice = alignment.total, 2 * PAST_END
+        for station, by in ((0, twice + 1), (0, twice + 3), (total, twice - 1), (total, twice + 1)):
             x, y = crest.position_at(alignment, station)
             by = by if (station == 0) == (min(c, s, key=abs) < 0) else -by
             points.append((x + by, y) if abs(c) < abs(s) else (x, y + by))
@@ -112,7 +119,7 @@ def halves(rng):
 
 def every_count(rng):
     """Random alignments of every count."""
-    for count in range(1, 61):
+    for count in range(1, MOST_RECORDS + 1):
         for turn in range(3):
             longest = rng.choice((5, 60, 1_500 // count + 2, 4_000 // count + 2))
             file, alignment = random_file(rng, Wish(count, longest=longest, at_limit=rng.choice((5, 50))))
@@ -128,8 +135,9 @@ def few_elements(rng):
 
 def millimetres(rng):
     """Elements of 1 mm or 1 and 2 mm."""
-    for count in (1, 2, 15, 16, 30, 45, 59, 60, 60, 60):
-        file, alignment = random_file(rng, Wish(count, longest=rng.choice((1, 2)), kink=1_000_000))
+    most = MOST_RECORDS
+    for count in (1, 2, PER_BLOCK, PER_BLOCK + 1, 2 * PER_BLOCK, 3 * PER_BLOCK, most - 1, most, most, most):
+        file, alignment = random_file(rng, Wish(count, longest=rng.choice((1, 2)), kink=WIDEST_KINK))
         yield file, mixed_points(rng, alignment, 12)
 
 
@@ -172,7 +180,7 @@ def hairpins(rng):
             shapes = [(ENTRY, length, turn * length), (ARC, length, turn * 2 * length)] * 6 + [(LINE, straight, 0)]
         x, y = rng.randint(-FRAME // 2, FRAME // 2), rng.randint(-FRAME // 2, FRAME // 2)
         file, alignment = traced(rng, shapes, (x, y), random_crests.random_unit(rng))
-        width = 400 * length
+        width = 4 * length * GRAINS
         points = []
         for _ in range(12):
             station = rng.randrange(min(straight, alignment.total))
@@ -184,21 +192,22 @@ def hairpins(rng):
 def closed_rings(rng):
     """Arcs that come round to where they began, once or twice; their centre is as far from every station."""
     for length, radius, turn in ((10, 20, 1), (25, 50, -1), (100, 300, 1), (100, 200, -1), (7, 14, -1), (50, 150, 1)):
-        count = min(60, 63 * radius // (10 * length) + 1)
+        count = min(MOST_RECORDS, 63 * radius // (10 * length) + 1)
         file, alignment = traced(rng, [(ARC, length, turn * radius)] * count, (rng.randint(-(10**7), 10**7), 5))
-        centre = beside(alignment, 0, 0, turn * 100 * radius)
+        centre = beside(alignment, 0, 0, turn * GRAINS * radius)
         points = [centre, (centre[0] + 1, centre[1]), (centre[0], centre[1] - 2)]
         points += [beside(alignment, rng.randint(0, alignment.total), 0, rng.randint(-300, 300)) for _ in range(8)]
         yield file, points + mixed_points(rng, alignment, 6)
 
 
 def long_ones(rng):
-    """60 elements of 500 m, 30 km in all, and some of a few kilometres."""
+    """As many of the longest elements as there may be, 30 km in all, and some of a few kilometres."""
+    most, long = MOST_RECORDS, LONGEST_ELEMENT
     for count, shortest, longest, points in (
-        (60, 500_000, 500_000, 6), (60, 499_000, 500_000, 5), (23, 1, 300_000, 8), (5, 400_000, 500_000, 8),
+        (most, long, long, 6), (most, long - 1_000, long, 5), (23, 1, 300_000, 8), (5, 400_000, long, 8),
     ):  # fmt: skip
         file, alignment = random_file(rng, Wish(count, shortest=shortest, longest=longest, at_limit=10))
-        rows = list(past_the_ends(alignment, rng.randint(-1_000, 1_000)))[:: 2 if count == 60 else 1]
+        rows = list(past_the_ends(alignment, rng.randint(-1_000, 1_000)))[:: 2 if count == most else 1]
         rows += on_joins(rng, alignment)[2:]
         while len(rows) < points:
             reach = rng.choice((0, 10, 3_000, 100_000))
@@ -206,7 +215,7 @@ def long_ones(rng):
         yield file, in_frame(rows)
     # the centre of a long arc: nearly every station is visited
     file, alignment = traced(rng, [(ARC, 90_000, 180_000)])
-    yield file, [beside(alignment, 45_000, 0, 18_000_000)]
+    yield file, [beside(alignment, 45_000, 0, 180_000 * GRAINS)]
     for kind, length, radius in ((ARC, 60_000, -150_000), (ENTRY, 60_000, 60_000), (EXIT, 70_000, -70_000)):
         file, alignment = traced(rng, [(kind, length, radius)])
         yield file, mixed_points(rng, alignment, 8)

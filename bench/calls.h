@@ -4,9 +4,10 @@
 #include <string.h>
 
 #include "crest.h"
+#include "limits.h"
 #include "probes.h"
 
-static uint8_t crest[CREST_FILE_BYTES_MAX], records[60 * CREST_RECORD_BYTES], room[CREST_FILE_BYTES_MAX];
+static uint8_t crest[CREST_FILE_BYTES_MAX], records[MOST_RECORDS * CREST_RECORD_BYTES], room[CREST_FILE_BYTES_MAX];
 static uint8_t run[CREST_RUN_BYTES], out[PROBE_RECORD_BYTES];
 static uint32_t length, count;
 static int32_t point[2];
@@ -15,7 +16,7 @@ static uint32_t check(void) { return crest_check(crest, length); }
 static uint32_t written(void) { return crest_write(records, count * CREST_RECORD_BYTES, room, sizeof room); }
 static uint32_t plane_reading(void) { return crest_plane_reading(crest, length, point[0], point[1], run, sizeof run); }
 static uint32_t line_reading(void) { return crest_line_reading(crest, length, 1, 0, run, sizeof run); }
-static uint32_t stake_out(void) { return crest_stake_out(0, 0, 100, 200, 0, 1 << 30, out, CREST_MOVE_BYTES); }
+static uint32_t stake_out(void) { return crest_stake_out(0, 0, 100, 200, 0, ONE, out, CREST_MOVE_BYTES); }
 static uint32_t acknowledge(void) { return crest_acknowledge(run, sizeof run); }
 static uint32_t position(void) { return probe_position(crest, length, 1, out, PROBE_POSITION_BYTES); }
 static uint32_t locate(void) { return probe_locate(crest, length, point[0], point[1], out, PROBE_LOCATE_BYTES); }
@@ -44,7 +45,7 @@ enum { CALLS = sizeof calls / sizeof *calls };
 static void gather(void)
 {
     for (uint32_t block = 0; block < length / CREST_BLOCK_BYTES; block++) {
-        uint8_t used = crest[CREST_BLOCK_BYTES * block + 482];
+        uint8_t used = crest[CREST_BLOCK_BYTES * block + USED_AT];
         memcpy(records + CREST_RECORD_BYTES * count, crest + CREST_BLOCK_BYTES * block, CREST_RECORD_BYTES * used);
         count += used;
     }

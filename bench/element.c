@@ -30,14 +30,14 @@ static void put_u32(uint8_t *bytes, uint32_t n)
 /* the element's record of 32 bytes */
 static void put_record(uint8_t *record, const element *e)
 {
-    memset(record, 0, 32);
-    record[0] = e->kind;
-    put_u32(record + 4, e->length);
-    put_u32(record + 8, e->x);
-    put_u32(record + 12, e->y);
-    put_u32(record + 16, e->c);
-    put_u32(record + 20, e->s);
-    put_u32(record + 24, e->radius);
+    memset(record, 0, RECORD_SIZE);
+    record[KIND_AT] = e->kind;
+    put_u32(record + RECORD_LENGTH_AT, e->length);
+    put_u32(record + X_AT, e->x);
+    put_u32(record + Y_AT, e->y);
+    put_u32(record + C_AT, e->c);
+    put_u32(record + S_AT, e->s);
+    put_u32(record + RADIUS_AT, e->radius);
 }
 
 int main(int argc, char **argv)
@@ -48,7 +48,7 @@ int main(int argc, char **argv)
     uint32_t count = strtoul(argv[3], 0, 10);
     /* a direction of unit length, and a curve to the right */
     element e = {kind, 200000, 1000, -2000, 858993459, 644245094, kind == LINE ? 0 : -1000000};
-    uint8_t record[32];
+    uint8_t record[RECORD_SIZE];
     put_record(record, &e);
     int64_t sum = strcmp(argv[1], "crate") == 0
         ? element_positions(record, sizeof record, count)

@@ -1,5 +1,5 @@
 /* The longest calls: what a reading returns, how many stations its walk visits, and its time.
-   The visits are counted by a walk written here from document 01 over the positions of plain.h, since a refused call tells no count. What
+   The visits are counted by a walk written here from the rules over the positions of plain.h, since a refused call tells no count. What
    the call returns, and the library's own count where it answers, have to be those of this walk.
    usage: longest FILE TIMES -- on the crest and the first point of FILE (bench/longest_crests.py), the call timed TIMES times */
 #include <stdio.h>
@@ -10,16 +10,14 @@
 #include "plain.h"
 #include "probes.h"
 
-enum { MOST_ELEMENTS = 60, FIRST_STEP = 1000, SLACK = 31, DIVISOR = 150, TOO_FAR = 12 };
-
-static const uint64_t FARTHEST = 400000000000000;
+enum { TOO_FAR = 12 };
 
 static uint8_t crest[CREST_FILE_BYTES_MAX];
 static uint32_t length;
 static int32_t point[2];
 
-static element elements[MOST_ELEMENTS];
-static int64_t starts[MOST_ELEMENTS + 1]; /* the first station of each element, and after them the crest's last station */
+static element elements[MOST_RECORDS];
+static int64_t starts[MOST_RECORDS + 1]; /* the first station of each element, and after them the crest's last station */
 static int count;
 
 static int64_t field(const uint8_t *at)
@@ -42,9 +40,10 @@ static int load(const char *path)
 static void take_elements(void)
 {
     for (uint32_t block = 0; block < length; block += CREST_BLOCK_BYTES)
-        for (uint32_t r = 0; r < crest[block + 482]; r++) {
+        for (uint32_t r = 0; r < crest[block + USED_AT]; r++) {
             const uint8_t *at = crest + block + CREST_RECORD_BYTES * r;
-            elements[count] = (element){at[0], field(at + 4), field(at + 8), field(at + 12), field(at + 16), field(at + 20), field(at + 24)};
+            elements[count] = (element){at[KIND_AT], field(at + RECORD_LENGTH_AT), field(at + X_AT), field(at + Y_AT),
+                                        field(at + C_AT), field(at + S_AT), field(at + RADIUS_AT)};
             starts[count + 1] = starts[count] + elements[count].length;
             count++;
         }
@@ -78,7 +77,7 @@ static uint32_t walked(uint64_t *best)
         *best = d < *best ? d : *best;
         visits++;
         int64_t surplus = (int64_t)root(d) - (int64_t)root(*best);
-        int64_t next = s + 1 + (surplus < SLACK ? 0 : (surplus - SLACK) / DIVISOR);
+        int64_t next = s + 1 + (surplus < ROOT_SLACK ? 0 : (surplus - ROOT_SLACK) / STEP_DIVISOR);
         s = at + 1 < count && next > starts[at + 1] ? starts[at + 1] : next;
     }
     return visits;

@@ -17,16 +17,15 @@ import sys
 
 sys.path.insert(0, str(pathlib.Path(__file__).resolve().parent.parent / "reference"))
 import crest  # noqa: E402
-from crest import ARC, ONE  # noqa: E402
+from crest import ARC, LONGEST_ELEMENT, MOST_RECORDS, ONE  # noqa: E402
 
-ELEMENTS = 60
 POINT = (0, 0)
 
 
 def ring(length, radius, distance, closer):
     """Arcs to the left, each from its true point of the circle, the first one moved to the centre; mm, but the last two in grains."""
     arcs = []
-    for i in range(ELEMENTS):
+    for i in range(MOST_RECORDS):
         angle = i * length / radius
         c, s = math.cos(angle), math.sin(angle)
         arcs.append(crest.Element(ARC, length, round(distance * c), round(distance * s), round(-ONE * s), round(ONE * c), radius))
@@ -35,8 +34,8 @@ def ring(length, radius, distance, closer):
 
 def main(folder):
     rings = {
-        "longest": ring(500_000, 1_900_000, 190_000_000, 90),
-        "even": ring(500_000, 1_900_000, 190_000_000, 0),
+        "longest": ring(LONGEST_ELEMENT, 1_900_000, 190_000_000, 90),
+        "even": ring(LONGEST_ELEMENT, 1_900_000, 190_000_000, 0),
         "answered": ring(100_000, 200_000, 20_000_080, 90),
     }
     for name, arcs in rings.items():

@@ -1,9 +1,9 @@
 /* Position on an element, straight from document 01, "Position on an element", with 128-bit numbers; and the whole square root. */
 #include <stdint.h>
 
-typedef __int128 whole;
+#include "limits.h"
 
-static const int64_t ONE = 1 << 30;
+typedef __int128 whole;
 
 enum { LINE = 1, ARC, ENTRY_SPIRAL, EXIT_SPIRAL };
 
@@ -32,12 +32,12 @@ static void series(const element *e, int64_t s, whole *t, whole *u, whole *v)
     whole d = e->kind == ARC ? (whole)e->radius : 2 * (whole)e->radius * e->length;
     *t = d < 0 ? near(-n, -d) : near(n, d);
     whole p = near(*t * *t, ONE);
-    whole w = near(100 * l * *t, ONE);
+    whole w = near(GRAINS * l * *t, ONE);
     if (e->kind == ARC) {
-        *u = near(100 * l * factor(p, 6, 1, 20), ONE);
+        *u = near(GRAINS * l * factor(p, 6, 1, 20), ONE);
         *v = near(w * factor(p, 12, 1, 30), 2 * (whole)ONE);
     } else {
-        *u = near(100 * l * factor(p, 10, 5, 108), ONE);
+        *u = near(GRAINS * l * factor(p, 10, 5, 108), ONE);
         *v = near(w * factor(p, 14, 7, 220), 3 * (whole)ONE);
         if (e->kind == EXIT_SPIRAL)
             *u = -*u;
@@ -46,7 +46,7 @@ static void series(const element *e, int64_t s, whole *t, whole *u, whole *v)
 
 static inline void position(const element *e, int64_t s, int64_t *x, int64_t *y)
 {
-    whole t, u = 100 * s, v = 0;
+    whole t, u = GRAINS * s, v = 0;
     if (e->kind != LINE)
         series(e, s, &t, &u, &v);
     *x = e->x + (int64_t)near(e->c * u - e->s * v, ONE);

@@ -14,7 +14,7 @@
 typedef struct {
     int count;
     int64_t total;
-    element elements[60];
+    element elements[MOST_RECORDS];
 } alignment;
 
 typedef struct {
@@ -69,7 +69,7 @@ static int radius_fits(const element *e)
     int64_t r = magnitude(e->radius);
     if (e->kind == LINE)
         return r == 0;
-    return (e->kind == ARC ? 2 * e->length : e->length) <= r && r <= 10000000;
+    return (e->kind == ARC ? 2 * e->length : e->length) <= r && r <= WIDEST;
 }
 
 static int apart(int64_t a, int64_t b, int64_t limit)
@@ -80,59 +80,60 @@ static int apart(int64_t a, int64_t b, int64_t limit)
 /* the refusal number of the file's own bytes, 0 for an accepted one */
 static int accepted(const uint8_t *file, size_t length, alignment *a)
 {
-    if (length == 0 || length % 512 != 0 || length > 2048)
+    if (length == 0 || length % BLOCK_SIZE != 0 || length > MOST_BLOCKS * BLOCK_SIZE)
         return 1;
-    int blocks = length / 512;
+    int blocks = length / BLOCK_SIZE;
     for (int b = 0; b < blocks; b++) {
-        const uint8_t *block = file + 512 * b;
+        const uint8_t *block = file + BLOCK_SIZE * b;
         uint32_t sum = 0, weighted = 0;
-        for (int i = 0; i < 508; i++) {
+        for (int i = 0; i < SUMS_AT; i++) {
             sum += block[i];
-            weighted += (508 - i) * block[i];
+            weighted += (SUMS_AT - i) * block[i];
         }
-        if (u16_at(block + 508) != sum % 65536 || u16_at(block + 510) != weighted % 65536)
+        if (u16_at(block + SUMS_AT) != sum % SUM_MODULUS || u16_at(block + SUM_B_AT) != weighted % SUM_MODULUS)
             return 2;
     }
     a->count = 0;
     a->total = 0;
     for (int b = 0; b < blocks; b++) {
-        const uint8_t *block = file + 512 * b;
-        int used = u16_at(block + 482);
-        if ((int)u16_at(block + 480) != b || used < (b + 1 < blocks ? 15 : 1) || used > 15 || u32_at(block + 484) != 1
-            || !zeros(block + 488, 20) || !zeros(block + 32 * used, 480 - 32 * used))
+        const uint8_t *block = file + BLOCK_SIZE * b;
+        int used = u16_at(block + USED_AT);
+        if ((int)u16_at(block + FIELDS_AT) != b || used < (b + 1 < blocks ? PER_BLOCK : 1) || used > PER_BLOCK
+            || u32_at(block + EDITION_AT) != EDITION || !zeros(block + ZEROS_AT, ZERO_COUNT)
+            || !zeros(block + RECORD_SIZE * used, RECORDS_END - RECORD_SIZE * used))
             return 3;
     }
     for (int b = 0; b < blocks; b++) {
-        const uint8_t *block = file + 512 * b;
-        for (int r = 0; r < (int)u16_at(block + 482); r++) {
-            const uint8_t *record = block + 32 * r;
+        const uint8_t *block = file + BLOCK_SIZE * b;
+        for (int r = 0; r < (int)u16_at(block + USED_AT); r++) {
+            const uint8_t *record = block + RECORD_SIZE * r;
             element *e = &a->elements[a->count++];
-            e->kind = record[0];
-            e->length = u32_at(record + 4);
-            e->x = (int32_t)u32_at(record + 8);
-            e->y = (int32_t)u32_at(record + 12);
-            e->c = (int32_t)u32_at(record + 16);
-            e->s = (int32_t)u32_at(record + 20);
-            e->radius = (int32_t)u32_at(record + 24);
+            e->kind = record[KIND_AT];
+            e->length = u32_at(record + RECORD_LENGTH_AT);
+            e->x = (int32_t)u32_at(record + X_AT);
+            e->y = (int32_t)u32_at(record + Y_AT);
+            e->c = (int32_t)u32_at(record + C_AT);
+            e->s = (int32_t)u32_at(record + S_AT);
+            e->radius = (int32_t)u32_at(record + RADIUS_AT);
             if (e->kind == 0 || e->kind > 15)
                 return 4;
-            if (e->kind > 4)
+            if (e->kind > EXIT_SPIRAL)
                 return 5;
-            if (!zeros(record + 1, 3) || !zeros(record + 28, 4))
+            if (!zeros(record + FIRST_ZEROS_AT, FIRST_ZERO_COUNT) || !zeros(record + LAST_ZEROS_AT, LAST_ZERO_COUNT))
                 return 4;
-            if (e->length < 1 || e->length > 500000 || !radius_fits(e) || magnitude(e->x) > 200000000 || magnitude(e->y) > 200000000)
+            if (e->length < 1 || e->length > LONGEST_ELEMENT || !radius_fits(e) || magnitude(e->x) > FRAME || magnitude(e->y) > FRAME)
                 return 6;
-            whole unit = (whole)e->c * e->c + (whole)e->s * e->s - ((whole)1 << 60);
-            if (unit > (whole)1 << 31 || -unit > (whole)1 << 31)
+            whole unit = (whole)e->c * e->c + (whole)e->s * e->s - UNIT_SQUARE;
+            if (unit > UNIT_SLACK || -unit > UNIT_SLACK)
                 return 7;
             a->total += e->length;
         }
     }
     for (int r = 0; r + 1 < a->count; r++) {
         placement end = place(&a->elements[r], a->elements[r].length), start = place(&a->elements[r + 1], 0);
-        if (apart(end.x, start.x, 100) || apart(end.y, start.y, 100))
+        if (apart(end.x, start.x, WIDEST_GAP) || apart(end.y, start.y, WIDEST_GAP))
             return 8;
-        if (apart(end.tx, start.tx, 1000000) || apart(end.ty, start.ty, 1000000))
+        if (apart(end.tx, start.tx, WIDEST_KINK) || apart(end.ty, start.ty, WIDEST_KINK))
             return 9;
     }
     return 0;
@@ -159,18 +160,18 @@ static uint32_t plain_locate(const uint8_t *file, size_t length, int32_t x, int3
 {
     alignment a;
     int number = accepted(file, length, &a);
-    if (out_length != 16)
+    if (out_length != PROBE_LOCATE_BYTES)
         return 18;
     if (number != 0)
         return number;
-    if (magnitude(x) > 200000000 || magnitude(y) > 200000000)
+    if (magnitude(x) > FRAME || magnitude(y) > FRAME)
         return 11;
     uint64_t best = UINT64_MAX;
     int64_t judged = 0;
     uint32_t visits = 0;
     int r = 0;
     int64_t start = 0;
-    for (int64_t s = 0; s <= a.total; s = s == a.total ? s + 1 : s + 1000 > a.total ? a.total : s + 1000) {
+    for (int64_t s = 0; s <= a.total; s = s == a.total ? s + 1 : s + FIRST_STEP > a.total ? a.total : s + FIRST_STEP) {
         uint64_t d = distance(&a, s, &r, &start, x, y);
         visits++;
         if (d < best) {
@@ -188,11 +189,11 @@ static uint32_t plain_locate(const uint8_t *file, size_t length, int32_t x, int3
             judged = s;
         }
         int64_t over = (int64_t)root(d) - (int64_t)root(best);
-        int64_t next = s + 1 + (over < 31 ? 0 : (over - 31) / 150);
+        int64_t next = s + 1 + (over < ROOT_SLACK ? 0 : (over - ROOT_SLACK) / STEP_DIVISOR);
         int64_t after = start + a.elements[r].length;
         s = r + 1 < a.count && next > after ? after : next;
     }
-    if (best > 400000000000000)
+    if (best > FARTHEST)
         return 12;
     r = 0;
     start = 0;
@@ -200,11 +201,11 @@ static uint32_t plain_locate(const uint8_t *file, size_t length, int32_t x, int3
     placement at = place(&a.elements[r], judged - start);
     int64_t dx = x - at.x, dy = y - at.y;
     int32_t values[4] = {judged, near((whole)at.tx * dy - (whole)at.ty * dx, ONE), near((whole)at.tx * dx + (whole)at.ty * dy, ONE), visits};
-    if (judged == 0 && values[2] < -100)
+    if (judged == 0 && values[2] < -PAST_END)
         return 13;
-    if (judged == a.total && values[2] > 100)
+    if (judged == a.total && values[2] > PAST_END)
         return 14;
-    memcpy(out, values, 16);
+    memcpy(out, values, PROBE_LOCATE_BYTES);
     return 0;
 }
 
@@ -235,7 +236,7 @@ static uint64_t answered(const work *w, locate *by, long count)
     for (long i = 0; i < count; i++)
         for (uint32_t p = 0; p < w->points; p++) {
             uint32_t out[4] = {0};
-            sum = sum * 31 + by(w->crest, w->crest_length, w->xy[2 * p], w->xy[2 * p + 1], (uint8_t *)out, 16);
+            sum = sum * 31 + by(w->crest, w->crest_length, w->xy[2 * p], w->xy[2 * p + 1], (uint8_t *)out, sizeof out);
             for (int k = 0; k < 4; k++)
                 sum = sum * 31 + out[k];
         }

@@ -15,7 +15,7 @@ import sys
 sys.path.insert(0, str(pathlib.Path(__file__).resolve().parent.parent / "reference"))
 import crest  # noqa: E402
 import random_crests  # noqa: E402
-from crest import ARC, ENTRY, EXIT, LINE, ONE  # noqa: E402
+from crest import ARC, ENTRY, EXIT, GRAINS, LINE, LONGEST_ELEMENT, MOST_RECORDS, ONE  # noqa: E402
 
 
 def chained(kinds, length, radii, start):
@@ -41,13 +41,16 @@ def main(folder):
     rng = random.Random(20_261_115)
     folder = pathlib.Path(folder)
     night = chained([LINE, ENTRY, ARC, EXIT] * 5, 15_000, ([60_000] * 4 + [-60_000] * 4) * 3, (0, 0))
-    far = chained([ENTRY, ARC, EXIT] * 20, 500_000, [1_000_000] * 60, (0, -150_000_000))
-    arc = [crest.Element(ARC, 90_000, 0, 0, ONE, 0, 190_000)]
+    most, longest = MOST_RECORDS, LONGEST_ELEMENT
+    far = chained([ENTRY, ARC, EXIT] * (most // 3), longest, [2 * longest] * most, (0, -150_000_000))
+    radius = 190_000
+    arc = [crest.Element(ARC, 90_000, 0, 0, ONE, 0, radius)]
     for name, elements, count in (("night", night, 100), ("long", far, 4), ("centre", arc, 1)):
         file = crest.file_made(b"".join(map(crest.record_of, elements)))
         alignment = crest.check(file)
         assert isinstance(alignment, crest.Alignment), (name, alignment)
-        points = [(0, 19_000_000)] if name == "centre" else points_beside(rng, alignment, count, 300_000)
+        centre = [(0, radius * GRAINS)]
+        points = centre if name == "centre" else points_beside(rng, alignment, count, 3_000 * GRAINS)
         data = struct.pack("<I", len(file)) + file + struct.pack("<I", len(points))
         (folder / name).write_bytes(data + b"".join(struct.pack("<ii", *point) for point in points))
 

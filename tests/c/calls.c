@@ -8,8 +8,34 @@
 #include <stdio.h>
 #include <stdlib.h>
 #include <string.h>
+#include <xmmintrin.h>
 
-#define ONE 1073741824
+/* The numbers of document 01's rules that crest.h has no name for, as far as they are used here; tests/limits compares them. */
+#define ONE (1 << 30)
+#define GRAINS 100
+#define FRAME 200000000
+#define WIDEST_GAP 100
+#define WIDEST_OFFSET 20000000
+#define SUMS_AT 508
+#define KIND_AT 0
+#define RECORD_LENGTH_AT 4
+#define X_AT 8
+#define Y_AT 12
+#define C_AT 16
+#define S_AT 20
+#define RADIUS_AT 24
+#define ANSWERED_AT 0
+#define REFUSED_AT 2
+#define LATEST_AT 4
+#define FIRST_AT 6
+#define FIRST_READING_AT 8
+#define SPARE_AT 10
+#define ONE_AT 12
+#define TWO_AT 16
+#define THREE_AT 20
+#define FORWARD_AT 0
+#define LEFT_AT 4
+#define PLACE_UNIT 256
 
 static unsigned calls;
 static unsigned surprises;
@@ -103,13 +129,13 @@ static unsigned get16(const uint8_t *at)
 static void record(uint8_t *at, uint8_t kind, int32_t length, int32_t x, int32_t y, int32_t c, int32_t s, int32_t radius)
 {
     memset(at, 0, CREST_RECORD_BYTES);
-    at[0] = kind;
-    put32(at + 4, length);
-    put32(at + 8, x);
-    put32(at + 12, y);
-    put32(at + 16, c);
-    put32(at + 20, s);
-    put32(at + 24, radius);
+    at[KIND_AT] = kind;
+    put32(at + RECORD_LENGTH_AT, length);
+    put32(at + X_AT, x);
+    put32(at + Y_AT, y);
+    put32(at + C_AT, c);
+    put32(at + S_AT, s);
+    put32(at + RADIUS_AT, radius);
 }
 
 /* Sixteen lines of 1 m along x, end to end: two blocks. */
@@ -118,34 +144,34 @@ static void lines(uint8_t *records)
 {
     int i;
     for (i = 0; i < LINES; i++) {
-        record(records + 32 * i, 1, 1000, 100000 * i, 0, ONE, 0, 0);
+        record(records + CREST_RECORD_BYTES * i, 1, 1000, 1000 * GRAINS * i, 0, ONE, 0, 0);
     }
 }
 
 /* ---- The calls */
 
-static uint8_t k[512];      /* one line of 10 m along x, as a file */
-static uint8_t two[1024];   /* the sixteen lines, as a file */
+static uint8_t k[CREST_BLOCK_BYTES];       /* one line of 10 m along x, as a file */
+static uint8_t two[2 * CREST_BLOCK_BYTES]; /* the sixteen lines, as a file */
 
 static void writes(void)
 {
-    uint8_t one[32], many[32 * LINES];
+    uint8_t one[CREST_RECORD_BYTES], many[CREST_RECORD_BYTES * LINES];
     uint8_t *records, *room;
     size_t len;
     record(one, 1, 10000, 0, 0, ONE, 0, 0);
     lines(many);
 
     expect("write nothing to nothing", crest_write(NULL, 0, NULL, 0), 17);
-    expect("write to no room", crest_write(one, 32, NULL, 0), 18);
-    room = room_of(512);
-    expect("write no records", crest_write(NULL, 0, room, 512), 17);
-    hold("refused write leaves the room", all(room, 512, 0x5a));
-    records = copy_of(one, 32);
-    expect("write one record", crest_write(records, 32, room, 512), 0);
-    hold("sum A", get16(room + 508) == 1u + 0x10 + 0x27 + 0x40 + 1 + 1);
-    memcpy(k, room, 512);
-    end_room("write of 512", room, 512);
-    for (len = 0; len <= 32; len += 31) {
+    expect("write to no room", crest_write(one, sizeof one, NULL, 0), 18);
+    room = room_of(sizeof k);
+    expect("write no records", crest_write(NULL, 0, room, sizeof k), 17);
+    hold("refused write leaves the room", all(room, sizeof k, 0x5a));
+    records = copy_of(one, sizeof one);
+    expect("write one record", crest_write(records, sizeof one, room, sizeof k), 0);
+    hold("sum A", get16(room + SUMS_AT) == 1u + 0x10 + 0x27 + 0x40 + 1 + 1);
+    memcpy(k, room, sizeof k);
+    end_room("write of a block", room, sizeof k);
+    for (len = 0; len < sizeof one; len += sizeof one - 1) {
         room = room_of(600);
         expect("write part of a record", crest_write(records, len, room, 600), 17);
         hold("refused write leaves the room", all(room, 600, 0x5a));
@@ -156,100 +182,104 @@ static void writes(void)
     records = copy_of(many, sizeof many);
     for (len = 0; len <= 1100; len += 73) {
         room = room_of(len);
-        expect("write sixteen records", crest_write(records, sizeof many, room, len), len < 1024 ? 18 : 0);
-        hold("room beyond the blocks", len < 1024 ? all(room, len, 0x5a) : all(room + 1024, len - 1024, 0x5a));
+        expect("write sixteen records", crest_write(records, sizeof many, room, len), len < sizeof two ? 18 : 0);
+        hold("room beyond the blocks", len < sizeof two ? all(room, len, 0x5a) : all(room + sizeof two, len - sizeof two, 0x5a));
         end_room("write to any room", room, len);
     }
-    room = room_of(1024);
-    expect("write sixteen records", crest_write(records, sizeof many, room, 1024), 0);
-    memcpy(two, room, 1024);
-    end_room("write of 1024", room, 1024);
-    put32(records + 32 * 8 + 8, 800101);
-    room = room_of(1024);
-    expect("write with a gap", crest_write(records, sizeof many, room, 1024), 8 + 256 * 7);
-    hold("refused write leaves the room", all(room, 1024, 0x5a));
-    end_room("refused write", room, 1024);
+    room = room_of(sizeof two);
+    expect("write sixteen records", crest_write(records, sizeof many, room, sizeof two), 0);
+    memcpy(two, room, sizeof two);
+    end_room("write of two blocks", room, sizeof two);
+    put32(records + CREST_RECORD_BYTES * 8 + X_AT, 1000 * GRAINS * 8 + WIDEST_GAP + 1);
+    room = room_of(sizeof two);
+    expect("write with a gap", crest_write(records, sizeof many, room, sizeof two), 8 + PLACE_UNIT * 7);
+    hold("refused write leaves the room", all(room, sizeof two, 0x5a));
+    end_room("refused write", room, sizeof two);
     free(records);
 }
 
 static void checks(void)
 {
-    uint8_t *file = copy_of(two, 1024);
+    uint8_t *file = copy_of(two, sizeof two);
     size_t len;
     expect("check nothing", crest_check(NULL, 0), 1);
     expect("check nothing at an address", crest_check(file, 0), 1);
-    for (len = 1; len < 1024; len += 93) {
+    for (len = 1; len < sizeof two; len += 93) {
         uint8_t *part = copy_of(two, len);
         expect("check a part", crest_check(part, len), 1);
         free(part);
     }
-    expect("check", crest_check(file, 1024), 0);
-    expect("check its first block alone", crest_check(file, 512), 0);
+    expect("check", crest_check(file, sizeof two), 0);
+    expect("check its first block alone", crest_check(file, sizeof k), 0);
     file[700]++;
-    expect("check wrong sums", crest_check(file, 1024), 2 + 256 * 1);
-    memcpy(file + 512, two, 512);
-    expect("check a block twice", crest_check(file, 1024), 3 + 256 * 1);
-    hold("number and place", CREST_NUMBER(3 + 256 * 1) == 3 && CREST_PLACE(3 + 256 * 1) == 1);
+    expect("check wrong sums", crest_check(file, sizeof two), 2 + PLACE_UNIT * 1);
+    memcpy(file + CREST_BLOCK_BYTES, two, CREST_BLOCK_BYTES);
+    expect("check a block twice", crest_check(file, sizeof two), 3 + PLACE_UNIT * 1);
+    hold("number and place", CREST_NUMBER(3 + PLACE_UNIT * 1) == 3 && CREST_PLACE(3 + PLACE_UNIT * 1) == 1);
     free(file);
 }
 
 static void readings(void)
 {
-    uint8_t *file = copy_of(k, 512);
+    uint8_t *file = copy_of(k, sizeof k);
     uint8_t *run = room_of(CREST_RUN_BYTES);
-    uint8_t before[24];
+    uint8_t before[CREST_RUN_BYTES];
     size_t len;
 
-    memset(run, 0, 24);
-    expect("point", crest_plane_reading(file, 512, 512.0, 300.0, run, 24), 0);
-    hold("station, offset, residual", get32(run + 12) == 5 && get32(run + 16) == 300 && get32(run + 20) == 12);
-    expect("place", crest_line_reading(file, 512, 5.0, -300.0, run, 24), 0);
-    hold("x, y, 0", get32(run + 12) == 500 && get32(run + 16) == -300 && get32(run + 20) == 0);
-    expect("point before the start", crest_plane_reading(file, 512, -101.0, 0.0, run, 24), 13);
-    hold("no stale values", all(run + 12, 12, 0) && get16(run + 4) == 13 && get16(run + 6) == 13 && get16(run + 8) == 3);
-    expect("point after the end", crest_plane_reading(file, 512, 1000101.0, 0.0, run, 24), 14);
-    expect("point too far", crest_plane_reading(file, 512, 500000.0, 20000001.0, run, 24), 12);
-    expect("point outside the frame", crest_plane_reading(file, 512, 200000001.0, 0.0, run, 24), 11);
-    expect("huge point", crest_plane_reading(file, 512, 1e300, 0.0, run, 24), 11);
-    expect("no number", crest_plane_reading(file, 512, (double)NAN, 0.0, run, 24), 10);
-    expect("infinite", crest_plane_reading(file, 512, 0.0, -(double)INFINITY, run, 24), 10);
-    expect("half a grain", crest_plane_reading(file, 512, 0.5, 0.0, run, 24), 10);
-    expect("minus zero", crest_plane_reading(file, 512, -0.0, -0.0, run, 24), 0);
-    expect("place beyond the end", crest_line_reading(file, 512, 10001.0, 0.0, run, 24), 15);
-    expect("offset too far", crest_line_reading(file, 512, 1.0, 20000001.0, run, 24), 15);
-    expect("place with no number", crest_line_reading(file, 512, (double)NAN, 0.0, run, 24), 10);
-    expect("point on no card", crest_plane_reading(NULL, 0, 0.0, 0.0, run, 24), 1);
-    expect("place on no card", crest_line_reading(NULL, 0, 0.0, 0.0, run, 24), 1);
-    expect("point on half a card", crest_plane_reading(file, 256, 0.0, 0.0, run, 24), 1);
-    hold("first refusal kept", get16(run) == 3 && get16(run + 2) == 14 && get16(run + 6) == 13 && get16(run + 8) == 3);
-    expect("acknowledge", crest_acknowledge(run, 24), 0);
-    hold("acknowledged", get16(run) == 3 && get16(run + 2) == 14 && get16(run + 4) == 1 && all(run + 6, 4, 0));
+    memset(run, 0, CREST_RUN_BYTES);
+    expect("point", crest_plane_reading(file, sizeof k, 512.0, 300.0, run, CREST_RUN_BYTES), 0);
+    hold("station, offset, residual", get32(run + ONE_AT) == 5 && get32(run + TWO_AT) == 300 && get32(run + THREE_AT) == 12);
+    expect("place", crest_line_reading(file, sizeof k, 5.0, -300.0, run, CREST_RUN_BYTES), 0);
+    hold("x, y, 0", get32(run + ONE_AT) == 500 && get32(run + TWO_AT) == -300 && get32(run + THREE_AT) == 0);
+    expect("point before the start", crest_plane_reading(file, sizeof k, -101.0, 0.0, run, CREST_RUN_BYTES), 13);
+    hold("no stale values", all(run + ONE_AT, CREST_RUN_BYTES - ONE_AT, 0) && get16(run + LATEST_AT) == 13);
+    hold("first refusal", get16(run + FIRST_AT) == 13 && get16(run + FIRST_READING_AT) == 3);
+    expect("point after the end", crest_plane_reading(file, sizeof k, 1000101.0, 0.0, run, CREST_RUN_BYTES), 14);
+    expect("point too far", crest_plane_reading(file, sizeof k, 500000.0, 20000001.0, run, CREST_RUN_BYTES), 12);
+    expect("point outside the frame", crest_plane_reading(file, sizeof k, FRAME + 1.0, 0.0, run, CREST_RUN_BYTES), 11);
+    expect("huge point", crest_plane_reading(file, sizeof k, 1e300, 0.0, run, CREST_RUN_BYTES), 11);
+    expect("no number", crest_plane_reading(file, sizeof k, (double)NAN, 0.0, run, CREST_RUN_BYTES), 10);
+    expect("infinite", crest_plane_reading(file, sizeof k, 0.0, -(double)INFINITY, run, CREST_RUN_BYTES), 10);
+    expect("half a grain", crest_plane_reading(file, sizeof k, 0.5, 0.0, run, CREST_RUN_BYTES), 10);
+    expect("minus zero", crest_plane_reading(file, sizeof k, -0.0, -0.0, run, CREST_RUN_BYTES), 0);
+    expect("place beyond the end", crest_line_reading(file, sizeof k, 10001.0, 0.0, run, CREST_RUN_BYTES), 15);
+    expect("offset too far", crest_line_reading(file, sizeof k, 1.0, WIDEST_OFFSET + 1.0, run, CREST_RUN_BYTES), 15);
+    expect("place with no number", crest_line_reading(file, sizeof k, (double)NAN, 0.0, run, CREST_RUN_BYTES), 10);
+    expect("point on no card", crest_plane_reading(NULL, 0, 0.0, 0.0, run, CREST_RUN_BYTES), 1);
+    expect("place on no card", crest_line_reading(NULL, 0, 0.0, 0.0, run, CREST_RUN_BYTES), 1);
+    expect("point on half a card", crest_plane_reading(file, sizeof k / 2, 0.0, 0.0, run, CREST_RUN_BYTES), 1);
+    hold("counts", get16(run + ANSWERED_AT) == 3 && get16(run + REFUSED_AT) == 14);
+    hold("first refusal kept", get16(run + FIRST_AT) == 13 && get16(run + FIRST_READING_AT) == 3);
+    expect("acknowledge", crest_acknowledge(run, CREST_RUN_BYTES), 0);
+    hold("counts as before", get16(run + ANSWERED_AT) == 3 && get16(run + REFUSED_AT) == 14 && get16(run + LATEST_AT) == 1);
+    hold("acknowledged", all(run + FIRST_AT, SPARE_AT - FIRST_AT, 0));
     file[100] = 1;
-    expect("point on a damaged card", crest_plane_reading(file, 512, 0.0, 0.0, run, 24), 2);
-    hold("first refusal again", get16(run + 6) == 2 && get16(run + 8) == 18);
+    expect("point on a damaged card", crest_plane_reading(file, sizeof k, 0.0, 0.0, run, CREST_RUN_BYTES), 2);
+    hold("first refusal again", get16(run + FIRST_AT) == 2 && get16(run + FIRST_READING_AT) == 18);
     file[100] = 0;
-    hold("zero bytes untouched", all(run + 10, 2, 0));
-    end_room("run", run, 24);
+    hold("zero bytes untouched", all(run + SPARE_AT, ONE_AT - SPARE_AT, 0));
+    end_room("run", run, CREST_RUN_BYTES);
 
     /* A full run, and one with something in bytes 10 and 11. */
-    run = room_of(24);
-    memset(run, 0xff, 24);
-    memcpy(before, run, 24);
-    expect("full run", crest_plane_reading(file, 512, 0.0, 0.0, run, 24), 16);
-    expect("full run", crest_line_reading(NULL, 0, (double)NAN, 0.0, run, 24), 16);
-    hold("full run unchanged", memcmp(before, run, 24) == 0);
-    expect("acknowledge a full run", crest_acknowledge(run, 24), 0);
-    hold("only the first goes", all(run, 6, 0xff) && all(run + 6, 4, 0) && all(run + 10, 14, 0xff));
-    end_room("full run", run, 24);
+    run = room_of(CREST_RUN_BYTES);
+    memset(run, 0xff, CREST_RUN_BYTES);
+    memcpy(before, run, CREST_RUN_BYTES);
+    expect("full run", crest_plane_reading(file, sizeof k, 0.0, 0.0, run, CREST_RUN_BYTES), 16);
+    expect("full run", crest_line_reading(NULL, 0, (double)NAN, 0.0, run, CREST_RUN_BYTES), 16);
+    hold("full run unchanged", memcmp(before, run, CREST_RUN_BYTES) == 0);
+    expect("acknowledge a full run", crest_acknowledge(run, CREST_RUN_BYTES), 0);
+    hold("only the first goes", all(run, FIRST_AT, 0xff) && all(run + FIRST_AT, SPARE_AT - FIRST_AT, 0)
+                                    && all(run + SPARE_AT, CREST_RUN_BYTES - SPARE_AT, 0xff));
+    end_room("full run", run, CREST_RUN_BYTES);
 
     /* Runs that are none. */
-    expect("no run", crest_plane_reading(file, 512, 0.0, 0.0, NULL, 0), 18);
-    expect("no run", crest_line_reading(file, 512, 0.0, 0.0, NULL, 0), 18);
+    expect("no run", crest_plane_reading(file, sizeof k, 0.0, 0.0, NULL, 0), 18);
+    expect("no run", crest_line_reading(file, sizeof k, 0.0, 0.0, NULL, 0), 18);
     expect("no run", crest_acknowledge(NULL, 0), 18);
-    for (len = 0; len < 60; len++) {
-        if (len != 24) {
+    for (len = 0; len < 2 * CREST_RUN_BYTES + 12; len++) {
+        if (len != CREST_RUN_BYTES) {
             run = room_of(len);
-            expect("odd run", crest_plane_reading(file, 512, 0.0, 0.0, run, len), 18);
+            expect("odd run", crest_plane_reading(file, sizeof k, 0.0, 0.0, run, len), 18);
             expect("odd run", crest_line_reading(NULL, 0, 0.0, 0.0, run, len), 18);
             expect("odd run", crest_acknowledge(run, len), 18);
             hold("odd run unchanged", all(run, len, 0x5a));
@@ -259,26 +289,66 @@ static void readings(void)
     free(file);
 }
 
+static int is_move(const uint8_t *move, int32_t forward, int32_t left)
+{
+    return get32(move + FORWARD_AT) == forward && get32(move + LEFT_AT) == left;
+}
+
 static void stakes(void)
 {
     size_t len;
     expect("no move", crest_stake_out(0, 0, 100, 200, 0, ONE, NULL, 0), 18);
     for (len = 0; len < 20; len++) {
         uint8_t *move = room_of(len);
-        expect("move", crest_stake_out(0, 0, 100, 200, 0, ONE, move, len), len == 8 ? 0 : 18);
-        hold("move", len == 8 ? get32(move) == 200 && get32(move + 4) == -100 : all(move, len, 0x5a));
+        expect("move", crest_stake_out(0, 0, 100, 200, 0, ONE, move, len), len == CREST_MOVE_BYTES ? 0 : 18);
+        hold("move", len == CREST_MOVE_BYTES ? is_move(move, 200, -100) : all(move, len, 0x5a));
         end_room("move", move, len);
     }
     {
-        uint8_t *move = room_of(8);
-        expect("own point outside", crest_stake_out(200000001, 0, 0, 0, ONE, 0, move, 8), 11);
-        expect("target outside", crest_stake_out(0, 0, 0, INT32_MIN, 0, 0, move, 8), 11);
-        expect("no heading", crest_stake_out(0, 0, 0, 0, 0, 0, move, 8), 7);
-        expect("heading of the least numbers", crest_stake_out(0, 0, 0, 0, INT32_MIN, INT32_MIN, move, 8), 7);
-        hold("refused moves leave the room", all(move, 8, 0x5a));
-        expect("across the frame", crest_stake_out(-200000000, -200000000, 200000000, 200000000, ONE, 0, move, 8), 0);
-        hold("across the frame", get32(move) == 400000000 && get32(move + 4) == 400000000);
-        end_room("move", move, 8);
+        uint8_t *move = room_of(CREST_MOVE_BYTES);
+        expect("own point outside", crest_stake_out(FRAME + 1, 0, 0, 0, ONE, 0, move, CREST_MOVE_BYTES), 11);
+        expect("target outside", crest_stake_out(0, 0, 0, INT32_MIN, 0, 0, move, CREST_MOVE_BYTES), 11);
+        expect("no heading", crest_stake_out(0, 0, 0, 0, 0, 0, move, CREST_MOVE_BYTES), 7);
+        expect("heading of the least numbers", crest_stake_out(0, 0, 0, 0, INT32_MIN, INT32_MIN, move, CREST_MOVE_BYTES), 7);
+        hold("refused moves leave the room", all(move, CREST_MOVE_BYTES, 0x5a));
+        expect("across the frame", crest_stake_out(-FRAME, -FRAME, FRAME, FRAME, ONE, 0, move, CREST_MOVE_BYTES), 0);
+        hold("across the frame", is_move(move, 2 * FRAME, 2 * FRAME));
+        end_room("move", move, CREST_MOVE_BYTES);
+    }
+}
+
+/* Both sorts of reading in every floating-point mode, four ways of rounding with subnormals kept, flushed or taken as zero, as in
+ * the mode that the program began with: of zeros, subnormals, halves, whole and huge numbers, infinities, and NaNs of both sorts. */
+static void modes(void)
+{
+    static const uint64_t bits[] = {0x0000000000000000u, 0x8000000000000000u, 0x0000000000000001u, 0x800fffffffffffffu,
+                                    0x0010000000000000u, 0x3fe0000000000000u, 0x4014000000000000u, 0x4080200000000000u,
+                                    0xc059400000000000u, 0x412e8480c0000000u, 0x41b0000000000000u, 0x7fefffffffffffffu,
+                                    0x7ff0000000000000u, 0xfff0000000000000u, 0x7ff0000000000001u, 0xfff8000000000000u};
+    enum { NUMBERS = sizeof bits / sizeof bits[0] };
+    const unsigned flush = 0x8000, zero = 0x0040, rounding = 0x6000, down = 0x2000;
+    const unsigned usual = _mm_getcsr() & ~(flush | zero | rounding);
+    double numbers[NUMBERS];
+    unsigned mode, i, j;
+    memcpy(numbers, bits, sizeof numbers);
+    for (i = 0; i < NUMBERS; i++) {
+        for (j = 0; j < NUMBERS; j++) {
+            uint8_t point[CREST_RUN_BYTES] = {0}, place[CREST_RUN_BYTES] = {0};
+            const uint32_t of_point = crest_plane_reading(k, sizeof k, numbers[i], numbers[j], point, CREST_RUN_BYTES);
+            const uint32_t of_place = crest_line_reading(k, sizeof k, numbers[i], numbers[j], place, CREST_RUN_BYTES);
+            for (mode = 1; mode < 16; mode++) {
+                uint8_t other_point[CREST_RUN_BYTES] = {0}, other_place[CREST_RUN_BYTES] = {0};
+                uint32_t of_other_point, of_other_place;
+                _mm_setcsr(usual + mode / 4 * down + (mode & 1 ? flush : 0) + (mode & 2 ? zero : 0));
+                of_other_point = crest_plane_reading(k, sizeof k, numbers[i], numbers[j], other_point, CREST_RUN_BYTES);
+                of_other_place = crest_line_reading(k, sizeof k, numbers[i], numbers[j], other_place, CREST_RUN_BYTES);
+                _mm_setcsr(usual);
+                expect("point in another mode", of_other_point, of_point);
+                expect("place in another mode", of_other_place, of_place);
+                hold("run of a point in another mode", memcmp(point, other_point, sizeof point) == 0);
+                hold("run of a place in another mode", memcmp(place, other_place, sizeof place) == 0);
+            }
+        }
     }
 }
 
@@ -288,6 +358,7 @@ int main(void)
     checks();
     readings();
     stakes();
+    modes();
     printf("calls.c calls %u differences %u\n", calls, surprises);
     return surprises != 0;
 }

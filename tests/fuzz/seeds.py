@@ -13,9 +13,10 @@ import sys
 ROOT = pathlib.Path(__file__).resolve().parents[2]
 sys.path.insert(0, str(ROOT / "reference"))
 import crest  # noqa: E402
+from crest import MOST_COUNTED, MOST_RECORDS, PER_BLOCK, RUN_SIZE, WIDEST_OFFSET  # noqa: E402
 from random_crests import AXES, Wish, random_file, random_point, random_station, random_unit  # noqa: E402
 
-COUNTS = (1, 2, 3, 7, 15, 16, 30, 31, 46, 60)
+COUNTS = (1, 2, 3, 7, *(PER_BLOCK * full + by for full, by in ((1, 0), (1, 1), (2, 0), (2, 1), (3, 1))), MOST_RECORDS)
 CHECK, WRITE, PLANE, LINE, ACKNOWLEDGE, RUN, STAKE_OUT = 0, 1, 2, 4, 6, 7, 8
 POSITION, LOCATE, INVERSE = 10, 11, 12
 
@@ -31,7 +32,7 @@ def calls(rng, alignment):
     shift, place, room = rng.randrange(16), rng.randrange(3), bytes([2, rng.randrange(256)])
     lent = bytes([shift, place])
     point, station = random_point(rng, alignment), random_station(rng, alignment)
-    offset = rng.choice((0, rng.randint(-300, 300), 20_000_000, -20_000_001))
+    offset = rng.choice((0, rng.randint(-300, 300), WIDEST_OFFSET, -WIDEST_OFFSET - 1))
     heading = rng.choice((*AXES, random_unit(rng)))
     made = [
         struct.pack("<BB", CHECK, place),
@@ -46,7 +47,9 @@ def calls(rng, alignment):
         struct.pack("<BBIBi", INVERSE, 1, station, 1, offset) + room + lent,
     ]
     rng.shuffle(made)
-    begin = struct.pack("<BB12H", RUN, 1, *(rng.choice((0, 1, 32_767, 65_534)) for _ in range(12)))
+    counts = 0, 1, MOST_COUNTED // 2, MOST_COUNTED - 1
+    begin = struct.pack("<BB", RUN, 1)
+    begin += b"".join(struct.pack("<H", rng.choice(counts)) for _ in range(RUN_SIZE // 2))
     return (begin if rng.randrange(3) == 0 else b"") + b"".join(made)
 
 

@@ -49,8 +49,11 @@ use std::ptr;
 use std::slice;
 
 use crest_tests::compare::{hex, Compare};
-use crest_tests::random::{repair, Random};
-use crest_tests::rules::{self, Crest, Reading, Refusal};
+use crest_tests::random::Random;
+use crest_tests::rules::{
+    self, Crest, Reading, Refusal, BLOCK_SIZE, LAST_NUMBER, MOST_BLOCKS, MOVE_SIZE, PER_BLOCK, PLACE_UNIT, RECORDS_END,
+    RECORD_SIZE, RUN_SIZE, USED_AT,
+};
 use crest_tests::{acknowledge, check, inverse, locate, position, reading, stake_out, write};
 
 const CALLS: usize = 64;
@@ -82,7 +85,7 @@ const INVERSE: usize = 8;
 /// How often each function gave each number, and the differences.
 #[derive(Default)]
 pub struct Seen {
-    pub numbers: [[u64; 19]; FUNCTIONS.len()],
+    pub numbers: [[u64; LAST_NUMBER + 1]; FUNCTIONS.len()],
     pub differences: u64,
 }
 
@@ -108,7 +111,7 @@ pub fn one_input(bytes: &[u8], seen: &mut Seen) {
     let told = rules::check(&file);
     let near = near.or(told.as_ref().ok().cloned());
     let compare = Compare::cases("fuzz");
-    let mut calls = Calls { random, compare, seen, file, records, told, near, run: vec![0; 24], walked: 0 };
+    let mut calls = Calls { random, compare, seen, file, records, told, near, run: vec![0; RUN_SIZE], walked: 0 };
     let mut fence = Fence::new();
     for _ in 0..CALLS {
         if calls.random.left() == 0 {
@@ -126,13 +129,13 @@ fn crest_of(random: &mut Random) -> (Vec<u8>, Vec<u8>, Option<Crest>) {
         0 => {
             let len = random.below(LONGEST);
             let file = random.take(len);
-            let records = file.chunks_exact(512).flat_map(|block| used_records(block).to_vec()).collect();
+            let records = file.chunks_exact(BLOCK_SIZE).flat_map(|block| used_records(block).to_vec()).collect();
             return (file, records, None);
         }
         1 | 2 => {
-            let len = random.below(2_049);
+            let len = random.below(MOST_BLOCKS * BLOCK_SIZE + 1);
             let mut records = random.take(len);
-            records.truncate(records.len() / 32 * 32);
+            records.truncate(records.len() / RECORD_SIZE * RECORD_SIZE);
             let near = rules::check_records(&records).ok().filter(|crest| !crest.elements.is_empty());
             (records, near)
         }
@@ -159,7 +162,7 @@ fn crest_of(random: &mut Random) -> (Vec<u8>, Vec<u8>, Option<Crest>) {
 }
 
 fn used_records(block: &[u8]) -> &[u8] {
-    &block[..32 * usize::from(rules::u16_at(block, 482)).min(15)]
+    &block[..RECORD_SIZE * usize::from(rules::u16_at(block, USED_AT)).min(PER_BLOCK)]
 }
 
 fn damage(random: &mut Random, file: &mut [u8]) {
@@ -171,9 +174,9 @@ fn damage(random: &mut Random, file: &mut [u8]) {
         file[at] = random.below(256) as u8;
     }
     let repaired = random.below(256);
-    for (number, block) in file.chunks_exact_mut(512).enumerate() {
+    for (number, block) in file.chunks_exact_mut(BLOCK_SIZE).enumerate() {
         if (repaired >> number) & 1 == 1 {
-            repair(block);
+            rules::put_sums(block);
         }
     }
 }
@@ -224,10 +227,10 @@ impl Calls<'_> {
             }
             (7, _) => {
                 self.run = match self.random.below(4) {
-                    0 => vec![0; 24],
+                    0 => vec![0; RUN_SIZE],
                     1 => {
-                        let mut run = self.random.take(24);
-                        run.resize(24, 0);
+                        let mut run = self.random.take(RUN_SIZE);
+                        run.resize(RUN_SIZE, 0);
                         run
                     }
                     2 => {
@@ -315,7 +318,7 @@ impl Calls<'_> {
     }
 
     fn count(&mut self, function: usize, value: u32) {
-        if let Some(count) = self.seen.numbers[function].get_mut((value % 256) as usize) {
+        if let Some(count) = self.seen.numbers[function].get_mut((value % PLACE_UNIT) as usize) {
             *count += 1;
         }
     }
@@ -338,7 +341,7 @@ impl Calls<'_> {
             }
             _ => self.records.clone(),
         };
-        let needed = 512 * records.len().div_ceil(480);
+        let needed = BLOCK_SIZE * records.len().div_ceil(RECORDS_END);
         let room = match self.random.below(3) {
             0 => needed,
             1 => (needed + self.random.below(3)).saturating_sub(1),
@@ -409,7 +412,7 @@ impl Calls<'_> {
     }
 
     fn stake_out(&mut self, own: (i32, i32), target: (i32, i32), heading: (i32, i32)) {
-        let before = self.room(8);
+        let before = self.room(MOVE_SIZE);
         let shift = self.random.below(16);
         let value = self.compare.room(
             || format!("crest_stake_out, own {own:?}, target {target:?}, heading {heading:?}"),

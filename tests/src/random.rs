@@ -1,7 +1,21 @@
 //! What the functions are called with: accepted crests of 1 to 60 elements, damaged files, and numbers of all sorts,
 //! from a small deterministic generator or from bytes that are given.
 
-use crate::rules::{self, put_i32, put_u16, Crest, Element, Reading, ARC, ENTRY, EXIT, LINE, ONE};
+use crate::rules::{
+    self, put_i32, put_sums, put_u16, put_u32, Crest, Element, Reading, ANSWERED_AT, ARC, BLOCK_SIZE, C_AT, EDITION, EDITION_AT,
+    ENTRY, EXIT, FARTHEST, FIELDS_AT, FIRST_AT, FRAME, KIND_AT, LINE, LONGEST_ELEMENT, MOST_BLOCKS, MOST_COUNTED, MOST_RECORDS,
+    ONE, PAST_END, PER_BLOCK, RADIUS_AT, RECORDS_END, RECORD_LENGTH_AT, RECORD_SIZE, REFUSED_AT, RUN_SIZE, SUMS_AT, SUM_B_AT,
+    S_AT, UNIT_SLACK, UNIT_SQUARE, USED_AT, WIDEST, WIDEST_GAP, WIDEST_KINK, WIDEST_OFFSET, X_AT, Y_AT, ZEROS_AT,
+};
+
+/// The farthest distance answered, in grains.
+const FAR: i128 = FARTHEST.isqrt();
+/// The largest s with which (ONE, s), and (ONE - 1, s), are units.
+const BESIDE_ONE: i128 = UNIT_SLACK.isqrt();
+const BESIDE_LESS: i128 = (UNIT_SQUARE + UNIT_SLACK - (ONE - 1) * (ONE - 1)).isqrt();
+/// Elements of a full block, and of a full file.
+const FULL: i128 = PER_BLOCK as i128;
+const MOST: i128 = MOST_RECORDS as i128;
 
 /// Choices: the given bytes in their order, and splitmix64 where there are none or no more.
 pub struct Random {
@@ -113,7 +127,7 @@ impl Random {
                 }
             }
             1 => {
-                let (a, b) = self.of(&[(ONE, 46_340), (ONE - 1, 0), (ONE - 1, 65_535), (ONE, -46_340)]);
+                let (a, b) = self.of(&[(ONE, BESIDE_ONE), (ONE - 1, 0), (ONE - 1, BESIDE_LESS), (ONE, -BESIDE_ONE)]);
                 if self.one_in(2) {
                     (a, b)
                 } else {
@@ -122,7 +136,7 @@ impl Random {
             }
             2 | 3 => {
                 let k = 15 + self.below(9);
-                let (a, b) = (self.sign() * (ONE - ((1 << (2 * k)) >> 31)), self.sign() * (1 << k));
+                let (a, b) = (self.sign() * (ONE - (1 << (2 * k)) / (2 * ONE)), self.sign() * (1 << k));
                 if self.one_in(2) {
                     (a, b)
                 } else {
@@ -150,9 +164,9 @@ impl Random {
     fn radius(&mut self, least: i128) -> i128 {
         let size = match self.below(4) {
             0 => least,
-            1 => 10_000_000,
-            2 => self.between(least, (4 * least).min(10_000_000)),
-            _ => self.between(least, 10_000_000),
+            1 => WIDEST,
+            2 => self.between(least, (4 * least).min(WIDEST)),
+            _ => self.between(least, WIDEST),
         };
         size * self.sign()
     }
@@ -167,10 +181,10 @@ impl Random {
             _ => self.radius(length),
         };
         if (kind == ENTRY || kind == EXIT) && self.one_in(10) {
-            // 2RL is 2^31: t is an exact half at every odd l.
+            // RL is ONE: t is an exact half at every odd l.
             let power = 7 + self.below(3);
             length = 1 << power;
-            radius = self.sign() * (1 << (30 - power));
+            radius = self.sign() * (ONE >> power);
         }
         let (c, s) = unit_along(tx as f64, ty as f64);
         let mut element = Element { kind, length, x, y, c, s, radius };
@@ -190,36 +204,36 @@ impl Random {
     pub fn crest(&mut self) -> (Vec<u8>, Crest) {
         let count = match self.below(12) {
             0..=5 => self.between(1, 3),
-            6..=9 => self.between(4, 14),
-            10 => self.of(&[15, 16, 30, 31, 45, 46, 59, 60]),
-            _ => self.between(15, 60),
+            6..=9 => self.between(4, FULL - 1),
+            10 => self.of(&[FULL, FULL + 1, 2 * FULL, 2 * FULL + 1, 3 * FULL, 3 * FULL + 1, MOST - 1, MOST]),
+            _ => self.between(FULL, MOST),
         };
         // Short, so that most calls are quick, and now and then as long as an element may be.
         let longest = match self.below(200) {
             0..=119 => 1 + 300 / count,
             120..=179 => 1 + 3_000 / count,
             180..=197 => 20_000,
-            _ => 500_000,
+            _ => LONGEST_ELEMENT,
         };
-        let edge = if self.one_in(4) { 200_000_000 } else { 100_000_000 };
+        let edge = if self.one_in(4) { FRAME } else { FRAME / 2 };
         let mut place = (self.around(&[-edge, 0, edge], -edge, edge), self.around(&[-edge, 0, edge], -edge, edge));
-        place = (place.0.clamp(-200_000_000, 200_000_000), place.1.clamp(-200_000_000, 200_000_000));
+        place = (place.0.clamp(-FRAME, FRAME), place.1.clamp(-FRAME, FRAME));
         let mut direction = self.unit();
         let mut records = Vec::new();
         for _ in 0..count {
             let mut element = self.element_from(place, direction, longest);
             if self.one_in(3) && !records.is_empty() {
                 // As far apart as a join may be.
-                element.x += self.of(&[-100, 0, 100]);
-                element.y += self.of(&[-100, 0, 100]);
+                element.x += self.of(&[-WIDEST_GAP, 0, WIDEST_GAP]);
+                element.y += self.of(&[-WIDEST_GAP, 0, WIDEST_GAP]);
             }
             records.extend_from_slice(&record_of(&element));
-            let joined = records.len().saturating_sub(64);
+            let joined = records.len().saturating_sub(2 * RECORD_SIZE);
             if rules::check_records(&records[joined..]).is_ok() {
                 place = element.position(element.length);
                 direction = element.direction(element.length);
             } else {
-                records.truncate(records.len() - 32);
+                records.truncate(records.len() - RECORD_SIZE);
             }
         }
         match rules::check_records(&records) {
@@ -230,55 +244,62 @@ impl Random {
 
     /// Records with a few of their numbers changed, at the edges of their ranges more often than not.
     pub fn damage_records(&mut self, records: &mut [u8]) {
-        if records.len() < 32 {
+        if records.len() < RECORD_SIZE {
             return;
         }
         for _ in 0..1 + self.below(2) {
-            let record = 32 * self.below(records.len() / 32);
-            let part = &mut records[record..record + 32];
-            let length = i128::from(rules::u32_at(part, 4));
+            let record = RECORD_SIZE * self.below(records.len() / RECORD_SIZE);
+            let part = &mut records[record..record + RECORD_SIZE];
+            let length = i128::from(rules::u32_at(part, RECORD_LENGTH_AT));
             match self.below(9) {
-                0 => part[0] = if self.one_in(2) { self.below(18) as u8 } else { self.bits() as u8 },
-                1 => part[self.of(&[1, 2, 3, 28, 29, 30, 31])] = self.of(&[1, 128, 255]),
+                0 => part[KIND_AT] = if self.one_in(2) { self.below(18) as u8 } else { self.bits() as u8 },
+                1 => {
+                    let reserved: Vec<usize> = rules::reserved().collect();
+                    let value = self.of(&[1, 128, 255]);
+                    part[self.of(&reserved)] = value;
+                }
                 2 => {
-                    let value = self.of(&[0, 1, 499_999, 500_000, 500_001, 1 << 31, u32::MAX]);
-                    part[4..8].copy_from_slice(&value.to_le_bytes());
+                    let longest = LONGEST_ELEMENT as u32;
+                    let value = self.of(&[0, 1, longest - 1, longest, longest + 1, 1 << 31, u32::MAX]);
+                    put_u32(part, RECORD_LENGTH_AT, value);
                 }
                 3 => {
-                    let at = self.of(&[8, 12]);
-                    let value = self.of(&[200_000_000, 200_000_001, i128::from(i32::MAX), i128::from(i32::MIN)]);
+                    let at = self.of(&[X_AT, Y_AT]);
+                    let value = self.of(&[FRAME, FRAME + 1, i128::from(i32::MAX), i128::from(i32::MIN)]);
                     put_i32(part, at, if self.one_in(2) && value > 0 { -value } else { value });
                 }
                 4 => {
-                    let value = self.of(&[0, length - 1, length, 2 * length - 1, 2 * length, 10_000_000, 10_000_001, 1 << 31]);
-                    put_i32(part, 24, (value * self.sign()).clamp(i32::MIN.into(), i32::MAX.into()));
+                    let value = self.of(&[0, length - 1, length, 2 * length - 1, 2 * length, WIDEST, WIDEST + 1, 1 << 31]);
+                    put_i32(part, RADIUS_AT, (value * self.sign()).clamp(i32::MIN.into(), i32::MAX.into()));
                 }
                 5 => {
                     let (c, s) = self.of(&[
-                        (ONE, 46_340),
-                        (ONE, 46_341),
+                        (ONE, BESIDE_ONE),
+                        (ONE, BESIDE_ONE + 1),
                         (ONE + 1, 0),
                         (ONE - 1, 0),
                         (ONE - 2, 0),
-                        (ONE - 1, 65_536),
+                        (ONE - 1, BESIDE_LESS + 1),
                         (i128::from(i32::MIN), i128::from(i32::MIN)),
                         (i128::from(i32::MIN), 0),
                         (0, 0),
                     ]);
-                    put_i32(part, 16, c);
-                    put_i32(part, 20, s);
+                    put_i32(part, C_AT, c);
+                    put_i32(part, S_AT, s);
                 }
                 6 => {
                     // Join gaps around the limit: every element's anchor moves with it.
-                    let at = self.of(&[8, 12]);
-                    let value = i128::from(rules::i32_at(part, at)) + self.sign() * self.of(&[1, 99, 100, 101, 200, 201]);
+                    let at = self.of(&[X_AT, Y_AT]);
+                    let (gap, twice) = (WIDEST_GAP, 2 * WIDEST_GAP);
+                    let by = self.sign() * self.of(&[1, gap - 1, gap, gap + 1, twice, twice + 1]);
+                    let value = i128::from(rules::i32_at(part, at)) + by;
                     put_i32(part, at, value.clamp(i32::MIN.into(), i32::MAX.into()));
                 }
                 7 => {
                     // Kinks around the limit, the direction still a unit.
-                    let (at, other) = self.of(&[(16, 20), (20, 16)]);
-                    let turned =
-                        i128::from(rules::i32_at(part, at)) + self.sign() * self.of(&[999_999, 1_000_000, 1_000_001, 3_000_000]);
+                    let (at, other) = self.of(&[(C_AT, S_AT), (S_AT, C_AT)]);
+                    let by = self.sign() * self.of(&[WIDEST_KINK - 1, WIDEST_KINK, WIDEST_KINK + 1, 3 * WIDEST_KINK]);
+                    let turned = i128::from(rules::i32_at(part, at)) + by;
                     let rest = ONE * ONE - turned * turned;
                     if rest > 0 {
                         let rest = (rest as f64).sqrt().round() as i128;
@@ -287,7 +308,7 @@ impl Random {
                         put_i32(part, other, sign * rest);
                     }
                 }
-                _ => part[self.below(32)] ^= 1 << self.below(8),
+                _ => part[self.below(RECORD_SIZE)] ^= 1 << self.below(8),
             }
         }
     }
@@ -304,7 +325,10 @@ impl Random {
             }
             6 => {
                 file = rules::blocks_of(records);
-                let len = self.of(&[0, 1, 31, 32, 480, 511, 512, 513, 1023, 1024, 1025, 1536, 2047, 2048, 2049, 2560]);
+                let (record, block, most) = (RECORD_SIZE, BLOCK_SIZE, MOST_BLOCKS * BLOCK_SIZE);
+                let one = [0, 1, record - 1, record, RECORDS_END, block - 1, block, block + 1];
+                let more = [2 * block - 1, 2 * block, 2 * block + 1, 3 * block, most - 1, most, most + 1, most + block];
+                let len = self.of(&[one, more].concat());
                 let fill = self.of(&[0, 1, 255]);
                 file.resize(len, fill);
             }
@@ -315,31 +339,34 @@ impl Random {
             8 => file = self.other_blocks(records),
             _ => {
                 file = rules::blocks_of(records);
-                let blocks = file.len() / 512;
+                let blocks = file.len() / BLOCK_SIZE;
                 for _ in 0..1 + self.below(3) {
-                    let at = 512 * self.below(blocks);
-                    let block = &mut file[at..at + 512];
+                    let at = BLOCK_SIZE * self.below(blocks);
+                    let block = &mut file[at..at + BLOCK_SIZE];
                     match self.below(8) {
-                        0 => put_u16(block, 480, self.of(&[0, 1, 2, 3, 4, 256, 65_535])),
-                        1 => put_u16(block, 482, self.of(&[0, 1, 2, 14, 15, 16, 17, 65_535])),
-                        2 => put_u16(block, self.of(&[484, 486]), self.of(&[0, 1, 2, 256, 65_535])),
-                        3 => block[488 + self.below(20)] = self.bits() as u8,
-                        4 => block[self.below(480)] = self.bits() as u8,
-                        5 => put_u16(block, self.of(&[508, 510]), self.bits() as u16),
-                        6 => block[self.below(508)] = self.bits() as u8,
+                        0 => put_u16(block, FIELDS_AT, self.of(&[0, 1, 2, 3, 4, 256, u16::MAX])),
+                        1 => {
+                            let full = PER_BLOCK as u16;
+                            put_u16(block, USED_AT, self.of(&[0, 1, 2, full - 1, full, full + 1, full + 2, u16::MAX]));
+                        }
+                        2 => put_u16(block, self.of(&[EDITION_AT, EDITION_AT + 2]), self.of(&[0, 1, 2, 256, u16::MAX])),
+                        3 => block[ZEROS_AT + self.below(SUMS_AT - ZEROS_AT)] = self.bits() as u8,
+                        4 => block[self.below(RECORDS_END)] = self.bits() as u8,
+                        5 => put_u16(block, self.of(&[SUMS_AT, SUM_B_AT]), self.bits() as u16),
+                        6 => block[self.below(SUMS_AT)] = self.bits() as u8,
                         _ => {
                             // Two bytes exchanged keep A and change B.
-                            let (first, second) = (self.below(508), self.below(508));
+                            let (first, second) = (self.below(SUMS_AT), self.below(SUMS_AT));
                             block.swap(first, second);
                         }
                     }
                     if !self.one_in(4) {
-                        repair(block);
+                        put_sums(block);
                     }
                 }
                 if self.one_in(8) && blocks > 1 {
-                    let (first, second) = file.split_at_mut(512);
-                    first.swap_with_slice(&mut second[..512]);
+                    let (first, second) = file.split_at_mut(BLOCK_SIZE);
+                    first.swap_with_slice(&mut second[..BLOCK_SIZE]);
                 }
             }
         }
@@ -348,20 +375,20 @@ impl Random {
 
     /// Blocks of fewer records than they hold, or one of none: right but for their use count.
     fn other_blocks(&mut self, records: &[u8]) -> Vec<u8> {
-        let size = 32 * (1 + self.below(15));
-        let mut file: Vec<u8> = records.chunks(size).take(4).flat_map(rules::blocks_of).collect();
+        let size = RECORD_SIZE * (1 + self.below(PER_BLOCK));
+        let mut file: Vec<u8> = records.chunks(size).take(MOST_BLOCKS).flat_map(rules::blocks_of).collect();
         if self.one_in(2) {
-            let mut unused = [0; 512];
-            put_u16(&mut unused, 484, 1);
-            let at = 512 * self.below(file.len() / 512 + 1);
+            let mut unused = [0; BLOCK_SIZE];
+            put_u32(&mut unused, EDITION_AT, EDITION);
+            let at = BLOCK_SIZE * self.below(file.len() / BLOCK_SIZE + 1);
             file.splice(at..at, unused);
         } else if self.one_in(2) {
-            file[..512].fill(0);
-            put_u16(&mut file, 484, 1);
+            file[..BLOCK_SIZE].fill(0);
+            put_u32(&mut file, EDITION_AT, EDITION);
         }
-        for (number, block) in file.chunks_mut(512).enumerate() {
-            put_u16(block, 480, number as u16);
-            repair(block);
+        for (number, block) in file.chunks_mut(BLOCK_SIZE).enumerate() {
+            put_u16(block, FIELDS_AT, number as u16);
+            put_sums(block);
         }
         file
     }
@@ -391,13 +418,13 @@ impl Random {
             0..=6 => 300,
             7..=12 => 20_000,
             13 => 2_000_000,
-            14 => 20_000_000,
-            _ => 400_000_000,
+            14 => FAR,
+            _ => 2 * FRAME,
         };
         if self.one_in(12) {
             // Straight beside it, at the edge of 12 or where many stations are equally far.
             let (tx, ty) = crest.direction(station);
-            let offset = self.sign() * self.of(&[20_000_000, 20_000_001, 19_999_999, 1_000_000]);
+            let offset = self.sign() * self.of(&[FAR, FAR + 1, FAR - 1, 1_000_000]);
             return (x - rules::near(offset * ty, ONE), y + rules::near(offset * tx, ONE));
         }
         if self.one_in(12) {
@@ -405,11 +432,11 @@ impl Random {
             let (at, sign) = self.of(&[(0, -1), (crest.total, 1)]);
             let (x, y) = crest.position(at);
             let (tx, ty) = crest.direction(at);
-            let along = sign * self.of(&[99, 100, 101, 102, 5_000]);
+            let along = sign * self.of(&[PAST_END - 1, PAST_END, PAST_END + 1, PAST_END + 2, 5_000]);
             return (x + rules::near(along * tx, ONE), y + rules::near(along * ty, ONE));
         }
         if self.one_in(6) {
-            let (along_x, along_y) = (self.odd_multiple(10_000_000), 0);
+            let (along_x, along_y) = (self.odd_multiple(FAR / 2), 0);
             return if self.one_in(2) { (x + along_x, y + along_y) } else { (x + along_y, y + along_x) };
         }
         (x + self.between(-reach, reach), y + self.between(-reach, reach))
@@ -429,7 +456,7 @@ impl Random {
     pub fn plane_point(&mut self, crest: &Crest) -> Reading {
         let (x, y) = self.point_near(crest);
         if self.one_in(6) {
-            let marks = [-200_000_000, 0, 200_000_000, x, y];
+            let marks = [-FRAME, 0, FRAME, x, y];
             let x = self.f64_near(&marks, x - 500, x + 500);
             let y = self.f64_near(&marks, y - 500, y + 500);
             return Reading::PlanePoint(x, y);
@@ -440,9 +467,9 @@ impl Random {
     pub fn line_place(&mut self, crest: &Crest) -> Reading {
         let station = self.station_on(crest);
         let station = self.f64_near(&[0, crest.total, station], 0, crest.total);
-        let offset = self.f64_near(&[-20_000_000, 0, 20_000_000], -20_000_000, 20_000_000);
+        let offset = self.f64_near(&[-WIDEST_OFFSET, 0, WIDEST_OFFSET], -WIDEST_OFFSET, WIDEST_OFFSET);
         if self.one_in(6) {
-            return Reading::LinePlace(station, self.odd_multiple(20_000_000) as f64);
+            return Reading::LinePlace(station, self.odd_multiple(WIDEST_OFFSET) as f64);
         }
         Reading::LinePlace(station, offset)
     }
@@ -460,9 +487,9 @@ impl Random {
         if self.one_in(10) {
             self.bits() as i32
         } else if self.one_in(6) {
-            self.odd_multiple(20_000_000) as i32
+            self.odd_multiple(WIDEST_OFFSET) as i32
         } else {
-            self.around(&[-20_000_000, 0, 20_000_000], -20_000_000, 20_000_000) as i32
+            self.around(&[-WIDEST_OFFSET, 0, WIDEST_OFFSET], -WIDEST_OFFSET, WIDEST_OFFSET) as i32
         }
     }
 
@@ -479,9 +506,9 @@ impl Random {
         match self.below(12) {
             0 => self.bits() as i32,
             1 => self.of(&[i32::MIN, i32::MAX, 0, 1, -1]),
-            2 | 3 => (self.sign() * (200_000_000 + self.between(-1, 1))) as i32,
+            2 | 3 => (self.sign() * (FRAME + self.between(-1, 1))) as i32,
             4 | 5 => self.between(-300, 300) as i32,
-            _ => self.between(-200_000_000, 200_000_000) as i32,
+            _ => self.between(-FRAME, FRAME) as i32,
         }
     }
 
@@ -491,7 +518,7 @@ impl Random {
         let mut target = (self.coordinate(), self.coordinate());
         if self.one_in(5) {
             // The move is often an exact half.
-            let by = self.odd_multiple(100_000_000) as i32;
+            let by = self.odd_multiple(FRAME / 2) as i32;
             let by = if self.one_in(2) { (by, 0) } else { (0, by) };
             target = (own.0.saturating_add(by.0), own.1.saturating_add(by.1));
         }
@@ -506,7 +533,7 @@ impl Random {
                 (i32::MIN.into(), i32::MIN.into()),
                 (i32::MIN.into(), 0),
                 (0, 0),
-                (ONE, 46_341),
+                (ONE, BESIDE_ONE + 1),
                 (ONE + 1, 0),
                 (ONE - 2, 0),
                 (i32::MAX.into(), i32::MAX.into()),
@@ -519,18 +546,18 @@ impl Random {
 
     /// A run's bytes: fresh, full or nearly, or anything.
     pub fn run(&mut self) -> Vec<u8> {
-        let mut run = if self.one_in(3) { vec![0; 24] } else { self.bytes(24) };
+        let mut run = if self.one_in(3) { vec![0; RUN_SIZE] } else { self.bytes(RUN_SIZE) };
         if self.one_in(2) {
-            let answered = self.below(65_536);
-            let refused = (65_535 - answered) as i128 + self.between(-2, 1);
-            put_u16(&mut run, 0, answered as u16);
-            put_u16(&mut run, 2, refused.clamp(0, 65_535) as u16);
+            let answered = self.between(0, u16::MAX.into());
+            let refused = i128::from(MOST_COUNTED) - answered + self.between(-2, 1);
+            put_u16(&mut run, ANSWERED_AT, answered as u16);
+            put_u16(&mut run, REFUSED_AT, refused.clamp(0, u16::MAX.into()) as u16);
         } else if self.one_in(2) {
-            put_u16(&mut run, 0, self.below(1_000) as u16);
-            put_u16(&mut run, 2, self.below(1_000) as u16);
+            put_u16(&mut run, ANSWERED_AT, self.below(1_000) as u16);
+            put_u16(&mut run, REFUSED_AT, self.below(1_000) as u16);
         }
         if self.one_in(2) {
-            put_u16(&mut run, 6, 0);
+            put_u16(&mut run, FIRST_AT, 0);
         }
         run
     }
@@ -550,7 +577,7 @@ impl Random {
     }
 }
 
-/// Whole numbers of length 2^30 along a direction.
+/// Whole numbers of length ONE along a direction.
 fn unit_along(x: f64, y: f64) -> (i128, i128) {
     let size = x.hypot(y);
     let one = ONE as f64;
@@ -558,20 +585,18 @@ fn unit_along(x: f64, y: f64) -> (i128, i128) {
 }
 
 /// The 32 bytes of an element.
-pub fn record_of(element: &Element) -> [u8; 32] {
-    let mut record = [0; 32];
-    record[0] = element.kind;
-    for (at, value) in
-        [(4, element.length), (8, element.x), (12, element.y), (16, element.c), (20, element.s), (24, element.radius)]
-    {
+pub fn record_of(element: &Element) -> [u8; RECORD_SIZE] {
+    let mut record = [0; RECORD_SIZE];
+    record[KIND_AT] = element.kind;
+    for (at, value) in [
+        (RECORD_LENGTH_AT, element.length),
+        (X_AT, element.x),
+        (Y_AT, element.y),
+        (C_AT, element.c),
+        (S_AT, element.s),
+        (RADIUS_AT, element.radius),
+    ] {
         put_i32(&mut record, at, value);
     }
     record
-}
-
-/// A block's sums made right.
-pub fn repair(block: &mut [u8]) {
-    let (a, b) = rules::sums(block);
-    put_u16(block, 508, a);
-    put_u16(block, 510, b);
 }

@@ -4,7 +4,9 @@ use std::ptr::{null, null_mut};
 
 use crest_tests::compare::Compare;
 use crest_tests::random::record_of;
-use crest_tests::rules::{self, Element, Reading, ARC, ENTRY, EXIT, LINE, ONE};
+use crest_tests::rules::{
+    self, Element, Reading, ARC, BLOCK_SIZE, ENTRY, EXIT, LINE, MOVE_SIZE, ONE, ONE_AT, RECORD_SIZE, RUN_SIZE,
+};
 use crest_tests::{locate, position, raw, reading, stake_out};
 
 fn file_of(kind: u8, length: i128, radius: i128) -> Vec<u8> {
@@ -34,11 +36,11 @@ fn marked_examples() {
         (Reading::LinePlace(5.0, 300.0), 0, Some([500, 300, 0])),
     ];
     for (asked, value, three) in table {
-        let mut run = [0; 24];
+        let mut run = [0; RUN_SIZE];
         compare.value(|| format!("{asked:?} on K"), reading(&k, asked, &mut run), value);
-        let mut expected = [0; 24];
+        let mut expected = [0; RUN_SIZE];
         compare.holds(|| format!("{asked:?} by the rules"), rules::reading_call(&accepted, asked, &mut expected) == value);
-        let shown = numbers(&run[12..]);
+        let shown = numbers(&run[ONE_AT..]);
         compare.holds(|| format!("{asked:?} leaves {shown:?}"), three.is_none_or(|three| shown == three) && run == expected);
     }
     // 10 to 12: positions.
@@ -55,7 +57,7 @@ fn marked_examples() {
         );
     }
     // 13
-    let mut out = [0; 8];
+    let mut out = [0; MOVE_SIZE];
     compare.value(|| "stake-out".to_string(), stake_out((0, 0), (100, 200), (0, ONE as i32), &mut out), 0);
     compare.holds(|| format!("stake-out: {:?}", numbers(&out)), numbers(&out) == [200, -100]);
     compare
@@ -74,9 +76,9 @@ fn marked_examples() {
 fn null_with_length_0() {
     let mut compare = Compare::cases("null_with_length_0");
     let k = file_of(LINE, 10_000, 0);
-    let record = &k[..32];
-    let mut room = [7; 512];
-    let mut run = [0; 24];
+    let record = &k[..RECORD_SIZE];
+    let mut room = [7; BLOCK_SIZE];
+    let mut run = [0; RUN_SIZE];
     let mut out = [7; 16];
     unsafe {
         compare.value(|| "check".into(), raw::crest_check(null(), 0), 1);
@@ -100,9 +102,9 @@ fn null_with_length_0() {
         compare.value(|| "inverse".into(), raw::probe_inverse(null(), 0, 0, 0, null_mut(), 0), 18);
         compare.value(|| "inverse".into(), raw::probe_inverse(null(), 0, 0, 0, out.as_mut_ptr(), 8), 1);
         compare.value(|| "record".into(), raw::probe_record(null(), 0, 0, null_mut(), 0), 18);
-        compare.value(|| "record".into(), raw::probe_record(null(), 0, 0, room.as_mut_ptr(), 32), 1);
+        compare.value(|| "record".into(), raw::probe_record(null(), 0, 0, room.as_mut_ptr(), RECORD_SIZE), 1);
     }
-    compare.holds(|| "room unchanged".into(), room == [7; 512] && out == [7; 16]);
+    compare.holds(|| "room unchanged".into(), room == [7; BLOCK_SIZE] && out == [7; 16]);
     // Four readings were counted, each refused with 1.
     compare.holds(|| format!("run {run:?}"), run == [0, 0, 4, 0, 1, 0, 1, 0, 1, 0, 0, 0, 0, 0, 0, 0, 0, 0, 0, 0, 0, 0, 0, 0]);
     compare.done();

@@ -1,7 +1,8 @@
 //! crest_check and crest_write.
 
 use crest_tests::compare::{hex, Compare};
-use crest_tests::{check, rules, write};
+use crest_tests::rules::{self, BLOCK_SIZE, LAST_NUMBER, MOST_BLOCKS, MOST_RECORDS, PLACE_UNIT, RECORDS_END, RECORD_SIZE};
+use crest_tests::{check, write};
 
 #[test]
 fn crest_check() {
@@ -13,7 +14,7 @@ fn crest_check() {
         for _ in 0..24 {
             let file = random.file_of(&records);
             let expected = rules::code(&rules::check(&file));
-            seen[(expected % 256) as usize] += 1;
+            seen[(expected % PLACE_UNIT) as usize] += 1;
             compare.value(|| format!("file {}", hex(&file)), check(&file), expected);
         }
     }
@@ -25,7 +26,7 @@ fn crest_check() {
 fn crest_write() {
     let mut compare = Compare::share("crest_write", 110);
     let mut random = compare.random();
-    let mut seen = [0; 19];
+    let mut seen = [0; LAST_NUMBER + 1];
     while compare.more() {
         let (whole, _) = random.crest();
         for _ in 0..16 {
@@ -33,16 +34,17 @@ fn crest_write() {
             match random.below(8) {
                 0 | 1 => random.damage_records(&mut records),
                 2 => {
-                    let len = [0, 1, 31, 32, 33, 480, 1_920, 1_921, 1_952, 2_048][random.below(10)];
+                    let (size, most, file) = (RECORD_SIZE, MOST_RECORDS * RECORD_SIZE, MOST_BLOCKS * BLOCK_SIZE);
+                    let len = random.of(&[0, 1, size - 1, size, size + 1, RECORDS_END, most, most + 1, most + size, file]);
                     records.resize(len, 0);
                 }
                 3 => {
-                    let len = 32 * (1 + random.below(60));
+                    let len = RECORD_SIZE * (1 + random.below(MOST_RECORDS));
                     records = records.into_iter().cycle().take(len).collect();
                 }
                 _ => {}
             }
-            let needed = 512 * records.len().div_ceil(480);
+            let needed = BLOCK_SIZE * records.len().div_ceil(RECORDS_END);
             let room = match random.below(4) {
                 0 => random.below(2_200),
                 1 => needed + random.below(3) * 256,
@@ -58,7 +60,7 @@ fn crest_write() {
                 |room| write(&records, room),
                 |room| rules::write_call(&records, room),
             );
-            seen[(value % 256) as usize] += 1;
+            seen[(value % PLACE_UNIT) as usize] += 1;
             if value == 0 {
                 // What was written is accepted.
                 let mut room = before;

@@ -2,13 +2,13 @@
 
 use crest_tests::check;
 use crest_tests::compare::Compare;
-use crest_tests::rules::{self, LINE};
+use crest_tests::rules::{self, LINE, LONGEST_ELEMENT, MOST_RECORDS, WIDEST_GAP};
 
 #[test]
 fn generated_crests() {
     let mut compare = Compare::cases("generated_crests");
     let mut random = compare.random();
-    let mut counts = [0; 61];
+    let mut counts = [0; MOST_RECORDS + 1];
     let mut kinds = [[0; 2]; 5];
     let (mut longest, mut edge_gaps) = (0, 0);
     for _ in 0..4_000 {
@@ -23,15 +23,15 @@ fn generated_crests() {
         }
         for pair in crest.elements.windows(2) {
             let ((x, y), (later_x, later_y)) = (pair[0].position(pair[0].length), pair[1].position(0));
-            edge_gaps += u32::from((x - later_x).abs() == 100 || (y - later_y).abs() == 100);
+            edge_gaps += u32::from((x - later_x).abs() == WIDEST_GAP || (y - later_y).abs() == WIDEST_GAP);
         }
     }
-    compare.holds(|| format!("1 to 60 elements: {counts:?}"), counts[1..].iter().all(|&count| count > 0));
+    compare.holds(|| format!("1 to {MOST_RECORDS} elements: {counts:?}"), counts[1..].iter().all(|&count| count > 0));
     compare.holds(
         || format!("all kinds, both signs: {kinds:?}"),
         (1..5).all(|kind| kinds[kind][0] > 0 && (kind == LINE.into() || kinds[kind][1] > 0)),
     );
-    compare.holds(|| format!("long crests: {longest} mm"), longest > 1_000_000);
+    compare.holds(|| format!("long crests: {longest} mm"), longest > 2 * LONGEST_ELEMENT);
     compare.holds(|| format!("joins at the limit: {edge_gaps}"), edge_gaps > 1_000);
     compare.done();
 }

@@ -3,7 +3,7 @@
 
 use crest_tests::compare::{hex, Compare};
 use crest_tests::random::Random;
-use crest_tests::rules::{self, Crest, Refusal};
+use crest_tests::rules::{self, Crest, Refusal, LAST_NUMBER, PLACE_UNIT, RECORD_SIZE};
 use crest_tests::{inverse, locate, position, record};
 
 /// Calls of one probe on accepted crests and damaged files, in rooms of any length.
@@ -18,7 +18,7 @@ fn probe<Q: Copy + std::fmt::Debug>(
 ) {
     let mut compare = Compare::share(name, thousandths);
     let mut random = compare.random();
-    let mut seen = [0; 19];
+    let mut seen = [0; LAST_NUMBER + 1];
     while compare.more() {
         let (records, crest) = random.crest();
         let file = rules::blocks_of(&records);
@@ -39,7 +39,7 @@ fn probe<Q: Copy + std::fmt::Debug>(
                 |room| call(file, asked, room),
                 |room| expected(&told, asked, room),
             );
-            seen[(value % 256) as usize] += 1;
+            seen[(value % PLACE_UNIT) as usize] += 1;
         }
         compare.holds(|| "the crest's bytes are unchanged".to_string(), file == rules::blocks_of(&records));
     }
@@ -86,7 +86,7 @@ fn probe_record() {
     probe(
         "probe_record",
         20,
-        32,
+        RECORD_SIZE,
         &[0, 1, 2, 3, 4, 5, 6, 7, 8, 9, 15, 18],
         |random, crest| {
             if random.one_in(20) {

@@ -1,15 +1,18 @@
 //! crest_plane_reading, crest_line_reading and crest_acknowledge: each by itself, in any order on one run, and to a full run.
 
 use crest_tests::compare::{hex, Compare};
-use crest_tests::random::Random;
-use crest_tests::rules::{self, Crest, Reading};
+use crest_tests::random::{record_of, Random};
+use crest_tests::rules::{
+    self, Crest, Element, Reading, ANSWERED_AT, FIRST_AT, FIRST_READING_AT, LAST_NUMBER, LATEST_AT, LINE, MOST_COUNTED, ONE,
+    ONE_AT, PLACE_UNIT, REFUSED_AT, RUN_SIZE, SPARE_AT,
+};
 use crest_tests::{acknowledge, reading};
 
 /// Readings of one sort on runs of any state and bytes of any number.
 fn readings(name: &'static str, thousandths: u64, make: fn(&mut Random, &Crest) -> Reading, given: &[usize]) {
     let mut compare = Compare::share(name, thousandths);
     let mut random = compare.random();
-    let mut seen = [0; 19];
+    let mut seen = [0; LAST_NUMBER + 1];
     let mut searched = 0;
     while compare.more() {
         let (records, crest) = random.crest();
@@ -22,7 +25,7 @@ fn readings(name: &'static str, thousandths: u64, make: fn(&mut Random, &Crest) 
                 Some(damaged) => (damaged, rules::check(damaged)),
                 None => (&file, accepted.clone()),
             };
-            let run = if random.one_in(10) { random.lent(24) } else { random.run() };
+            let run = if random.one_in(10) { random.lent(RUN_SIZE) } else { random.run() };
             let shift = random.below(16);
             let value = compare.room(
                 || format!("{asked:?} on file {}", hex(file)),
@@ -31,12 +34,12 @@ fn readings(name: &'static str, thousandths: u64, make: fn(&mut Random, &Crest) 
                 |run| reading(file, asked, run),
                 |run| rules::reading_call(&told, asked, run),
             );
-            seen[(value % 256) as usize] += 1;
+            seen[(value % PLACE_UNIT) as usize] += 1;
             // The station that the walk finds is the least of least D among all.
             if let (Reading::PlanePoint(x, y), Ok(crest)) = (asked, &told) {
                 if crest.total <= 300 && random.one_in(4) {
                     if let (Some(x), Some(y)) = (rules::whole(x.to_bits()), rules::whole(y.to_bits())) {
-                        if x.abs() <= 200_000_000 && y.abs() <= 200_000_000 {
+                        if rules::in_frame(x, y) {
                             let walked = crest.walk((x, y));
                             let judged = crest.judged((x, y));
                             searched += 1;
@@ -73,7 +76,7 @@ fn crest_acknowledge() {
     let mut compare = Compare::share("crest_acknowledge", 50);
     let mut random = compare.random();
     while compare.more() {
-        let run = if random.one_in(2) { random.lent(24) } else { random.run() };
+        let run = if random.one_in(2) { random.lent(RUN_SIZE) } else { random.run() };
         let shift = random.below(16);
         compare.room(|| "run".to_string(), &run, shift, acknowledge, rules::acknowledge_call);
     }
@@ -86,7 +89,7 @@ fn any_order() {
     let mut compare = Compare::share("any_order", 70);
     let mut random = compare.random();
     while compare.more() {
-        let mut run = vec![0; 24];
+        let mut run = vec![0; RUN_SIZE];
         let (mut answered, mut refused, mut latest, mut first) = (0u16, 0u16, 0u16, None);
         let (records, crest) = random.crest();
         let file = rules::blocks_of(&records);
@@ -123,7 +126,7 @@ fn any_order() {
                     },
                     |room| rules::reading_call(told, asked, room),
                 );
-                latest = (value % 256) as u16;
+                latest = (value % PLACE_UNIT) as u16;
                 if latest == 0 {
                     answered += 1;
                 } else {
@@ -132,8 +135,9 @@ fn any_order() {
                 }
             }
             let (number, at) = first.unwrap_or((0, 0));
-            let shown = [0, 2, 4, 6, 8, 10].map(|at| rules::u16_at(&run, at));
-            let stale = latest != 0 && run[12..] != [0; 12];
+            let fields = [ANSWERED_AT, REFUSED_AT, LATEST_AT, FIRST_AT, FIRST_READING_AT, SPARE_AT];
+            let shown = fields.map(|at| rules::u16_at(&run, at));
+            let stale = latest != 0 && run[ONE_AT..].iter().any(|&byte| byte != 0);
             compare.holds(
                 || format!("run {} after its calls", hex(&run)),
                 shown == [answered, refused, latest, number, at, 0] && !stale,
@@ -147,17 +151,11 @@ fn any_order() {
 #[test]
 fn full_run() {
     let mut compare = Compare::cases("full_run");
-    let file = {
-        let mut record = [0; 32];
-        record[0] = 1;
-        rules::put_i32(&mut record, 4, 10);
-        rules::put_i32(&mut record, 16, rules::ONE);
-        rules::blocks_of(&record)
-    };
+    let file = rules::blocks_of(&record_of(&Element { kind: LINE, length: 10, x: 0, y: 0, c: ONE, s: 0, radius: 0 }));
     let told = rules::check(&file);
-    let mut run = vec![0; 24];
+    let mut run = vec![0; RUN_SIZE];
     let mut random = compare.random();
-    for number in 1..=65_600 {
+    for number in 1..=MOST_COUNTED + 65 {
         let asked = Reading::LinePlace(random.below(14) as f64, 300.0);
         let before = run.clone();
         let value = compare.room(
@@ -171,7 +169,7 @@ fn full_run() {
             },
             |room| rules::reading_call(&told, asked, room),
         );
-        compare.holds(|| format!("reading {number} is taken: {value}"), (value == 16) == (number > 65_535));
+        compare.holds(|| format!("reading {number} is taken: {value}"), (value == 16) == (number > MOST_COUNTED));
     }
     compare.done();
 }

@@ -1,7 +1,7 @@
 -- Demand 1: "Any bytes, any reading and any order of calls end in an answer or in a numbered refusal from the table. A refusal carries no station, offset or point, and lent
 -- room other than the run record stays as it came. The run record shows the outcome of the latest counted reading only, and keeps the first counted refusal since the last
 -- acknowledgement."
-use Prim.Native.Nat.{ℕ, _+_, _*_, _≤_}
+use Prim.Native.Nat.{ℕ, _+_, _*_, _%_, _≤_}
 use mathlib.Core.Bool.{Bool, true, false}
 use mathlib.Core.List.{List, [], _∷_, _++_}
 use mathlib.Core.Logic.{_≢_, _⊎_, inl, inr, _↔_}
@@ -25,6 +25,7 @@ use Rattle.model.specs.declared.Move.{Move}
 use Rattle.model.specs.declared.Move.the-variants.{By, Refused as MoveRefused}
 use Rattle.model.specs.declared.Reading.{Reading}
 use Rattle.model.specs.declared.ReadingAnswer.{ReadingAnswer}
+use Rattle.model.specs.declared.Run.{Run}
 use Rattle.model.specs.declared.ReadingAnswer.the-variants.{PlanePoint as AnswerPoint, LinePlace as AnswerPlace, Refused as AnswerRefused}
 use Rattle.model.specs.Refusals.{Reason, lastNumber, askedOutOfRange, runFull, wrongRoom, Rule, number, refusal, rule₀, verdict}
 use Rattle.model.specs.Acceptance.{crestRules}
@@ -35,11 +36,12 @@ use Rattle.model.specs.Answers.{PaperAnswer, paperIf, code, paperOfOutcome, Que
 use Rattle.model.specs.Readings.{refusesReading, answerTo, valueCount, paperOfReading, zeroFloat, displayOf}
 use Rattle.model.specs.Run.{shownOf, isFull, runAt, runBytes, counted, acknowledged}
 use Rattle.model.specs.Calls.{readingCall, acknowledgeCall, checkCall, writeCall, moveSize, moveBytes, stakeOutCall}
-use Rattle.model.specs.Histories.{Call, read, acknowledge, Came, reading, AllCame, none, asked, acknowledged-next, afterCalls, bytesAfterCalls, freshBytes, demanded}
+use Rattle.model.specs.Histories.{Call, read, acknowledge, Came, reading, AllCame, none, asked, acknowledged-next, afterCall, afterCalls, bytesAfterCall, bytesAfterCalls, freshBytes, demanded}
 use Rattle.model.proofs.Verdict.{reason-numbered, AllHold, more, Cause, order-outcome, refused→first, refused-before, done→all, all→done}
 use Rattle.model.proofs.Answers.{Tells, told-refused, told-paper, told-exactly, told-answered, station-tells, point-tells, place-tells, move-tells, reading-tells}
 use Rattle.run.specs.Stored.{Storable}
 use Rattle.run.proofs.Refused.{refuses-numbered, AsRead, answer-as-read, Zeros, refusal-shows-zeros}
+use Rattle.run.proofs.Noting.{noted-counted}
 use Rattle.run.proofs.Calls.{reading-18, reading-16, reading-counted, not-counted-unchanged, acknowledge-18, acknowledge-0}
 use Rattle.model.proofs.Reasons.{first-holds, rest-hold}
 use Rattle.fields.proofs.Bytes.{AllBytes}
@@ -387,6 +389,33 @@ module _ {cs : List Call} (came : AllCame cs) (run : List ℕ) (long : length ru
 
   pub spelled-run-goes-on : runAt (bytesAfterCalls cs run) ≡ afterCalls cs (runAt run)
   spelled-run-goes-on = bytes-show-run cs run (bytes-spelled run long b) (every-fits came)
+
+-- what a reading shows in the run where its call returns a refusal: the number, and zeros
+refusal-shown : (a : ReadingAnswer) → ((why : Refusal) → a ≡ AnswerRefused why → Numbered why) → code (paperOfReading 0 a) ≢ 0 → (shownOf a .number ≡ code (paperOfReading 0 a) % 256) × Zeros (shownOf a)
+unfolding code paperOfReading shownOf
+refusal-shown (AnswerPoint station offset residual visits) numbered h = absurd (h refl)
+refusal-shown (AnswerPlace x y) numbered h = absurd (h refl)
+refusal-shown (AnswerRefused why) numbered h = let n = numbered why refl in (omega (arith, n), record { one = refl; two = refl; three = refl })
+
+-- the latest outcome of a run is a refusal, by what its call returned, and zeros
+abbrev pub ShowsRefusal : ℕ → Run → Type 0
+ShowsRefusal returned run = (run .latest ≡ returned % 256) × (run .one ≡ pos 0) × (run .two ≡ pos 0) × (run .three ≡ pos 0)
+
+-- So a refusal that is counted leaves its number in the run's 24 bytes and zeros for station, offset and residual, whatever stood there before: a call that returns neither
+-- 0, 16 nor 18.
+pub counted-refusal-shows-zeros : {a : ReadingAnswer} → Came a → (run : List ℕ) → AllBytes run → readingCall a run .0 ≢ 0 → readingCall a run .0 ≢ 16 → readingCall a run .0 ≢ 18 →
+    ShowsRefusal (readingCall a run .0) (runAt (readingCall a run .1))
+unfolding bytesAfterCalls bytesAfterCall afterCalls afterCall counted
+counted-refusal-shows-zeros {a} came run b not-0 not-16 not-18 = go (any-reading-call a run)
+  where
+    go : ReadingEnds a run → ShowsRefusal (readingCall a run .0) (runAt (readingCall a run .1))
+    go (no-run h e) = absurd (not-18 (ap (λ o. o .0) e))
+    go (run-full h f e) = absurd (not-16 (ap (λ o. o .0) e))
+    go (counts h f e) =
+        let returned = ap (λ o. o .0) e in
+        let shown = refusal-shown a (came-numbered came) (λ z. not-0 (returned ∙ z)) in
+        let after = spelled-run-goes-on (asked came none) run h b ∙ ap (λ n. n .run) (noted-counted a (runAt run) f) in
+        subst (ShowsRefusal (readingCall a run .0)) (sym after) (shown .0 ∙ ap (λ n. n % 256) (sym returned), shown .1 .one, shown .1 .two, shown .1 .three)
 
 -- "(the zero is neither read nor changed)": bytes 10 and 11 of any bytes are as they came
 pub zero-stays : (cs : List Call) (run : List ℕ) → (byteAt (bytesAfterCalls cs run) 10 ≡ byteAt run 10) × (byteAt (bytesAfterCalls cs run) 11 ≡ byteAt run 11)

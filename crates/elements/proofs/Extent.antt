@@ -118,8 +118,8 @@ unit-within′ a b h = unit-within b a (subst (λ (z : ℤ). natAbs (z -ℤ pos 
 distance-small : (p q : Point) → natAbs (p .x) ≤ frame → natAbs (p .y) ≤ frame → natAbs (q .x) ≤ widestPosition → natAbs (q .y) ≤ widestPosition → distanceSq p q < 2 ^ 62
 unfolding distanceSq
 distance-small p q px py qx qy =
-    let x : natAbs (p .x -ℤ q .x) ≤ 462500000 = omega (arith, natAbs-- (p .x) (q .x)) in
-    let y : natAbs (p .y -ℤ q .y) ≤ 462500000 = omega (arith, natAbs-- (p .y) (q .y)) in
+    let x : natAbs (p .x -ℤ q .x) ≤ frame + widestPosition = omega (arith, natAbs-- (p .x) (q .x)) in
+    let y : natAbs (p .y -ℤ q .y) ≤ frame + widestPosition = omega (arith, natAbs-- (p .y) (q .y)) in
     omega (arith, squared-≤ (p .x -ℤ q .x) (p .y -ℤ q .y) x y)
 
 -- ---- the record
@@ -140,7 +140,7 @@ extent {e} a {s} h =
     let v : natAbs (w .aside) ≤ widestAside = le-trans (local-aside-within (angleAt e s) t shape (lengthAt e s)) (omega arith) in
     let m = direction-along-within (angleAt e s) t shape in
     let n = facing-within far (directionOf shape (angleAt e s) .aside) (direction-aside-within (angleAt e s) t shape) in
-    let moved : (x y : ℤ) → natAbs x ≤ frame → natAbs y ≤ 62500000 → natAbs (x +ℤ y) ≤ widestPosition = λ x y hx hy. omega (arith, natAbs-+ x y) in
+    let moved : (x y : ℤ) → natAbs x ≤ frame → natAbs y ≤ widestAlong + widestAside → natAbs (x +ℤ y) ≤ widestPosition = λ x y hx hy. omega (arith, natAbs-+ x y) in
     let px = moved (e .x) (near (e .c *ℤ w .along -ℤ e .s *ℤ w .aside) ONE) (numbers a .anchorX) (near-turn 1 (e .c) (w .along) (e .s) (w .aside) c d u v .0) in
     let py = moved (e .y) (near (e .s *ℤ w .along +ℤ e .c *ℤ w .aside) ONE) (numbers a .anchorY) (near-turn 1 (e .s) (w .along) (e .c) (w .aside) d c u v .1) in
     record {

@@ -1,4 +1,4 @@
--- An accepted element and an accepted alignment: what a crest that is not refused has, and what functions ask.
+-- docs/RULES.md, rules 2.9 to 2.12 and 2.15. An accepted element and an accepted alignment: what a crest that is not refused has, and what functions ask.
 use Prim.Native.Nat.{_≤_}
 use mathlib.Core.Bool.{true}
 use mathlib.Core.List.{List, [], _∷_}

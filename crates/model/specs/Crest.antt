@@ -1,4 +1,4 @@
--- A crest: the rules that its bytes have to pass, in their order, and its elements. Every question but the reader's is put to one; bytes are only where it comes from.
+-- docs/RULES.md, rule 2.15. A crest: the rules that its bytes have to pass, in their order, and its elements. Every question but the reader's is put to one; bytes are only where it comes from.
 use Prim.Native.Nat.{ℕ, _≤_}
 use mathlib.Core.Bool.{Bool, _&&_}
 use mathlib.Core.List.{List}

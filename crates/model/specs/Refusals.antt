@@ -37,7 +37,7 @@ number wrongRoom = 18
 abbrev pub lastNumber : ℕ
 lastNumber = 18
 
--- the table's words, for messages; the conditions themselves are the rules of the chapters
+-- the table's words, as document 01 has them; messages have those of include/crest_text.h, and the conditions themselves are the rules of the chapters
 unfoldable pub sentence : Reason → String
 sentence byteCount = "byte count not 512, 1024, 1536 or 2048"
 sentence checksum = "a block's A or B is wrong"

@@ -22,8 +22,8 @@ from rows import FILE
 ROOM = 2_600
 KINDS = (LINE, ARC, ENTRY, EXIT)
 CURVES = (ARC, ENTRY, EXIT)
-# joins at the start, inside blocks, at the boundaries of blocks and on both sides of them, at the end
 STARTS = range(PER_BLOCK, MOST_RECORDS, PER_BLOCK)  # the first records of the later blocks
+# joins at the start, inside blocks, at the boundaries of blocks and on both sides of them, at the end
 JOINS = (0, 1, 7, *(start + by for start in STARTS for by in (-2, -1, 0)), MOST_RECORDS - 3, MOST_RECORDS - 2)
 BOUNDARIES = (0, *(start - 1 for start in STARTS))
 PLACES = (0, 1, *(start + by for start in STARTS for by in (-1, 0)), MOST_RECORDS - 1)

@@ -1929,7 +1929,7 @@ def part_of(chapter):
 def needed_crates():
     """The lines of crates.txt for the crate and what it depends on, by name."""
     lines = {}
-    for line in (ROOT / "crates.txt").read_text().splitlines():
+    for line in (ROOT / "crates.txt").read_text(encoding="utf-8").splitlines():
         name, colon, others = line.split("#")[0].partition(":")
         if colon:
             lines[name.strip()] = others.split()
@@ -1946,7 +1946,7 @@ def make_copy(folder):
     crates = needed_crates()
     (folder / "crates").mkdir(parents=True)
     lines = (f"{name}: {' '.join(others)}\n" for name, others in crates.items())
-    (folder / "crates.txt").write_text("".join(lines))
+    (folder / "crates.txt").write_text("".join(lines), encoding="utf-8")
     for name in crates:
         shutil.copytree(ROOT / "crates" / name, folder / "crates" / name)
 
@@ -1956,11 +1956,12 @@ def put_modules(folder, modules):
     proofs = folder / "crates" / CRATE / "proofs"
     for old in proofs.glob("Cases*.antt"):
         old.unlink()
-    library = (ROOT / "crates" / CRATE / "proofs" / "Lib.antt").read_text()
-    (proofs / "Lib.antt").write_text(library + "".join(f"pub mod {name}\n" for name in (FORMS, *modules)))
-    (proofs / f"{FORMS}.antt").write_text(FORMS_TEXT)
+    library = (ROOT / "crates" / CRATE / "proofs" / "Lib.antt").read_text(encoding="utf-8")
+    library += "".join(f"pub mod {name}\n" for name in (FORMS, *modules))
+    (proofs / "Lib.antt").write_text(library, encoding="utf-8")
+    (proofs / f"{FORMS}.antt").write_text(FORMS_TEXT, encoding="utf-8")
     for name, text in modules.items():
-        (proofs / f"{name}.antt").write_text(text)
+        (proofs / f"{name}.antt").write_text(text, encoding="utf-8")
 
 
 class Verdict(NamedTuple):
@@ -1973,7 +1974,7 @@ class Verdict(NamedTuple):
 
 def ask_checker(folder, command):
     words = ["rt", command, CRATE]
-    done = subprocess.run(words, cwd=folder, stdout=subprocess.PIPE, stderr=subprocess.STDOUT, text=True)
+    done = subprocess.run(words, cwd=folder, stdout=subprocess.PIPE, stderr=subprocess.STDOUT, encoding="utf-8")
     found = re.findall(r"proofs/(\w+)\.antt:\d+:\d+: error: (?:`([^`]+)`)?", done.stdout)
     return Verdict(done.returncode == 0, found, done.stdout)
 
@@ -2066,6 +2067,7 @@ def check_all(folder, part):
 
 
 def main(arguments):
+    sys.stdout.reconfigure(encoding="utf-8")
     part = arguments[:1] == ["--part"]
     folders = arguments[part:]
     if len(folders) > 1 or folders and folders[0].startswith("-"):

@@ -59,7 +59,7 @@ class Blocks(unittest.TestCase):
             self.assertEqual(len(crest.check(file).elements), count)
 
     def test_1(self):
-        for length in (0, *(size + by for size in FILE_SIZES for by in (-1, 1)), FILE_SIZES[-1] + BLOCK_SIZE):
+        for length in (0, 1, *(size + by for size in FILE_SIZES for by in (-1, 1)), FILE_SIZES[-1] + BLOCK_SIZE):
             self.assertEqual(file_refusal(bytes(length)), (1, 0))
         self.assertEqual(file_refusal(self.four + self.four[:BLOCK_SIZE]), (1, 0))
 

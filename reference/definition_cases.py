@@ -2062,7 +2062,7 @@ def check_all(folder, part):
         print(f"NOT REFUSED: {', '.join(map(' '.join, taken))}\n{errors_in(verdict.text)}")
         return 1
     count, most = (sum(chapter.count for chapter in some) for some in (made, whole_ones))
-    print(f"definition cases: {count}{f' of {most}' if part else ''} accepted, in {time.monotonic() - start:.0f} s")
+    print(f"definition cases: {count}{f', a part of {most},' if part else ''} accepted, in {time.monotonic() - start:.0f} s")
     return 0
 
 

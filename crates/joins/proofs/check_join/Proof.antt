@@ -3,7 +3,7 @@ use mathlib.Core.Path.{_≡_, sym, ap₂, _∙_}
 use borrow.Author.Tests.{not-true, not-false}
 use borrow.Author.Needs.{needs}
 use Rattle.model.specs.Refusals.{verdict, orRefused, refusal, number}
-use Rattle.model.specs.Acceptance.{closeBy}
+use Rattle.model.specs.Acceptance.{widestGap, widestKink, closeBy}
 use Rattle.joins.specs.Joins.{positionIn, directionIn, placedRules}
 use Rattle.joins.proofs.check_join.Statement.{statement}
 use Rattle.joins.proofs.check_join.Tie as tie
@@ -36,11 +36,11 @@ refused-requires : tie.Need-refused-requires
 refused-requires c κs = search needs
 
 -- what the two tests say of the placements
-gap-tested : (c : tie.After-close-by) → let a = c .before .before .before .args in closeBy 100 (positionIn (a .last)) (positionIn (a .first)) ≡ c .close-by .result
-gap-tested c = sym (c .close-by .ensures ∙ ap₂ (closeBy 100) (c .before .before .position-in .ensures) (c .before .position-in2 .ensures))
+gap-tested : (c : tie.After-close-by) → let a = c .before .before .before .args in closeBy widestGap (positionIn (a .last)) (positionIn (a .first)) ≡ c .close-by .result
+gap-tested c = sym (c .close-by .ensures ∙ ap₂ (closeBy widestGap) (c .before .before .position-in .ensures) (c .before .position-in2 .ensures))
 
-kink-tested : (c : tie.After-close-by2) → let a = c .before .before .before .before .before .before .args in closeBy 1000000 (directionIn (a .last)) (directionIn (a .first)) ≡ c .close-by2 .result
-kink-tested c = sym (c .close-by2 .ensures ∙ ap₂ (closeBy 1000000) (c .before .before .direction-in .ensures) (c .before .direction-in2 .ensures))
+kink-tested : (c : tie.After-close-by2) → let a = c .before .before .before .before .before .before .args in closeBy widestKink (directionIn (a .last)) (directionIn (a .first)) ≡ c .close-by2 .result
+kink-tested c = sym (c .close-by2 .ensures ∙ ap₂ (closeBy widestKink) (c .before .before .direction-in .ensures) (c .before .direction-in2 .ensures))
 
 returns : tie.Need-returns
 unfolding verdict placedRules orRefused refusal number

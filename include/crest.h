@@ -9,6 +9,9 @@
  * that the bytes a call changes overlap no others that it is lent, and that nothing else writes lent bytes, or reads those that
  * are changed, while the call runs. A call keeps nothing for the next.
  *
+ * Paths below, such as docs/FORMAT.md, are of the repository. tools/install puts docs/RULES.md and docs/FORMAT.md into
+ * share/doc/crest.
+ *
  * Every call returns 0 where it answers, and else
  *
  *     number + 256 * place
@@ -49,7 +52,7 @@
  *
  *     call                 stack, bytes  work
  *     crest_check                   344  its bytes, records and joins, once: some 42,000 instructions for 60 records
- *     crest_write                   456  as crest_check, and writing: as many
+ *     crest_write                   456  as crest_check, and writing: some 41,000 in all
  *     crest_plane_reading           664  as crest_check, and the walk below
  *     crest_line_reading            664  as crest_check, and one position: some 43,000 instructions
  *     crest_stake_out                64  some 80 instructions
@@ -60,14 +63,18 @@
  *
  * Only crest_plane_reading searches. Its walk visits stations, twice over the crest: on one of T mm at most T + T / 1000 + 3 of
  * them, and never more than 30,030,002, since T is 30,000,000 at the most. There are crests and points where it comes to that
- * many. Most calls visit few: some 750 for points within 3 m of a crest of 300 m. Time is measured and not proved. On one
- * x86-64 core of 2.6 GHz, least of 15 calls (bench/longest):
+ * many. Most calls visit few: some 750 for points within 3 m of a crest of 300 m. A visit takes some 130 to 140 instructions on
+ * average there, and some 200 where it takes a root (bench/README.md), as each does in the first two calls below. Time is
+ * measured and not proved. On one x86-64 core of 2.6 GHz with little else to do (bench/longest):
  *
- *     the longest call known, refused with 12      30,030,002 visits    865 ms    29 ns a visit
- *     the longest known that is answered            6,006,002 visits    173 ms    29 ns a visit
- *     as the first, where no roots are taken       30,030,002 visits    324 ms    11 ns a visit
+ *     the longest call known, refused with 12   30,030,002 visits   873 ms at the least, 879 at the most of 15 calls
+ *     the longest known that is answered         6,006,002 visits   175 ms at the least, 179 at the most
+ *     as the first, where no roots are taken    30,030,002 visits   325 ms at the least, 333 at the most
  *
- * A watchdog that must not fire during a call has to wait for 30,030,002 visits, or for those of the longest crest in use.
+ * That is 29, 29 and 11 ns a visit, of the least.
+ *
+ * A watchdog that must not fire during a call has to wait for 30,030,002 visits, or for those of the longest crest in use, with
+ * a margin: that no call takes longer is not shown.
  *
  *
  * The target
@@ -100,7 +107,7 @@ extern "C" {
 #endif
 
 /* The version: 10000 * major + 100 * minor + patch, for #if, and as text. Major rises where the parameters of a call, a layout or
- * an answer changes; minor where calls or refusal numbers are added; patch where neither is so. */
+ * an answer change; minor where calls or refusal numbers are added; patch where neither is so. */
 #define CREST_VERSION 10000
 #define CREST_VERSION_TEXT "1.0.0"
 
@@ -154,7 +161,9 @@ uint32_t crest_write(const uint8_t *records, size_t records_len, uint8_t *room, 
  * The latest values are those of a plane point | of a line place | of a refusal. Offset and residual are in grains.
  *
  * A reading is refused with 18 where its run is not 24 bytes, and with 16 where answered + refused is 65,535 or more: both
- * before all else, and both change no byte. Any other reading is counted, its refusal too. */
+ * before all else, and both change no byte. So after 16 or 18 the run still shows the latest counted reading, an answer perhaps:
+ * firmware has to go by the returned value. A full run is begun anew by zeroing its 24 bytes, which crest_acknowledge does not
+ * do. Any other reading is counted, its refusal too. */
 
 /* A plane point, x and y in grains: the station nearest to it, its offset, and the residual along the crest.
  * Refusals, in this order: 18, 16, 1 to 9 as above, 10, 11, 12, 13, 14. */

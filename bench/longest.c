@@ -1,5 +1,5 @@
 /* The longest calls: what a reading returns, how many stations its walk visits, and its time.
-   The visits are counted by a walk written here from the rules over the positions of plain.h, since a refused call tells no count. What
+   The visits are counted by a walk written here from the rules over the distances of plain.h, since a refused call tells no count. What
    the call returns, and the library's own count where it answers, have to be those of this walk.
    usage: longest FILE TIMES -- on the crest and the first point of FILE (bench/longest_crests.py), the call timed TIMES times */
 #include <stdio.h>
@@ -16,14 +16,7 @@ static uint8_t crest[CREST_FILE_BYTES_MAX];
 static uint32_t length;
 static int32_t point[2];
 
-static element elements[MOST_RECORDS];
-static int64_t starts[MOST_RECORDS + 1]; /* the first station of each element, and after them the crest's last station */
-static int count;
-
-static int64_t field(const uint8_t *at)
-{
-    return (int32_t)(at[0] | at[1] << 8 | at[2] << 16 | (uint32_t)at[3] << 24);
-}
+static alignment line;
 
 static int load(const char *path)
 {
@@ -39,46 +32,36 @@ static int load(const char *path)
 /* the elements of a crest that the library accepts */
 static void take_elements(void)
 {
-    for (uint32_t block = 0; block < length; block += CREST_BLOCK_BYTES)
-        for (uint32_t r = 0; r < crest[block + USED_AT]; r++) {
-            const uint8_t *at = crest + block + CREST_RECORD_BYTES * r;
-            elements[count] = (element){at[KIND_AT], field(at + RECORD_LENGTH_AT), field(at + X_AT), field(at + Y_AT),
-                                        field(at + C_AT), field(at + S_AT), field(at + RADIUS_AT)};
-            starts[count + 1] = starts[count] + elements[count].length;
-            count++;
+    for (uint32_t block = 0; block < length; block += BLOCK_SIZE)
+        for (uint32_t r = 0; r < u16_at(crest + block + USED_AT); r++) {
+            element *e = &line.elements[line.count++];
+            read_element(crest + block + RECORD_SIZE * r, e);
+            line.total += e->length;
         }
-}
-
-/* D(s); `at` is the element of an earlier station, and becomes that of this one */
-static uint64_t squared(int64_t station, int *at)
-{
-    int64_t x, y;
-    while (*at + 1 < count && station >= starts[*at + 1])
-        (*at)++;
-    position(&elements[*at], station - starts[*at], &x, &y);
-    return (uint64_t)((x - point[0]) * (x - point[0]) + (y - point[1]) * (y - point[1]));
 }
 
 /* how many stations the walk visits, both passes together, and the least D */
 static uint32_t walked(uint64_t *best)
 {
-    int64_t total = starts[count];
     uint32_t visits = 0;
-    int at = 0;
+    int r = 0;
+    int64_t start = 0;
     *best = UINT64_MAX;
-    for (int64_t s = 0; s <= total; s = s < total && s + FIRST_STEP > total ? total : s + FIRST_STEP) {
-        uint64_t d = squared(s, &at);
+    for (int64_t s = 0; s <= line.total; s = s < line.total && s + FIRST_STEP > line.total ? line.total : s + FIRST_STEP) {
+        uint64_t d = distance(&line, s, &r, &start, point[0], point[1]);
         *best = d < *best ? d : *best;
         visits++;
     }
-    at = 0;
-    for (int64_t s = 0; s <= total;) {
-        uint64_t d = squared(s, &at);
+    r = 0;
+    start = 0;
+    for (int64_t s = 0; s <= line.total;) {
+        uint64_t d = distance(&line, s, &r, &start, point[0], point[1]);
         *best = d < *best ? d : *best;
         visits++;
         int64_t surplus = (int64_t)root(d) - (int64_t)root(*best);
         int64_t next = s + 1 + (surplus < ROOT_SLACK ? 0 : (surplus - ROOT_SLACK) / STEP_DIVISOR);
-        s = at + 1 < count && next > starts[at + 1] ? starts[at + 1] : next;
+        int64_t after = start + line.elements[r].length;
+        s = r + 1 < line.count && next > after ? after : next;
     }
     return visits;
 }
@@ -104,7 +87,7 @@ static int agrees(uint32_t returned, uint32_t visits, uint64_t best)
     uint8_t located[PROBE_LOCATE_BYTES] = {0};
     if (returned != (best > FARTHEST ? TOO_FAR : 0) || probe_locate(crest, length, point[0], point[1], located, sizeof located) != returned)
         return 0;
-    return returned != 0 || field(located + 12) == visits;
+    return returned != 0 || u32_at(located + 12) == visits;
 }
 
 int main(int argc, char **argv)
@@ -124,8 +107,8 @@ int main(int argc, char **argv)
         return 1;
     }
     qsort(taken, (size_t)times, sizeof *taken, by_size);
-    printf("%u %lld %u, %.1f %.1f, %.1f\n", (unsigned)returned, (long long)starts[count], (unsigned)visits, taken[0], taken[times / 2],
-           taken[0] * 1e6 / visits);
+    printf("%u %lld %u, %.1f %.1f %.1f, %.1f\n", (unsigned)returned, (long long)line.total, (unsigned)visits, taken[0], taken[times / 2],
+           taken[times - 1], taken[0] * 1e6 / visits);
     free(taken);
     return 0;
 }

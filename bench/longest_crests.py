@@ -23,7 +23,7 @@ POINT = (0, 0)
 
 
 def ring(length, radius, distance, closer):
-    """Arcs to the left, each from its true point of the circle, the first one moved to the centre; mm, but the last two in grains."""
+    """Arcs to the left, each from its true point of the circle, the first one moved towards the centre; mm, but the last two in grains."""
     arcs = []
     for i in range(MOST_RECORDS):
         angle = i * length / radius

@@ -1,4 +1,5 @@
-/* Position on an element, straight from document 01, "Position on an element", with 128-bit numbers; and the whole square root. */
+/* Position on an element, straight from document 01, "Position on an element", with 128-bit numbers; the whole square root; the element of a
+   record; and the distance of a crest's station. */
 #include <stdint.h>
 
 #include "limits.h"
@@ -65,4 +66,49 @@ static inline uint64_t root(uint64_t n)
             high = middle;
     }
     return low;
+}
+
+/* ---- a crest's elements */
+
+typedef struct {
+    int count;
+    int64_t total;
+    element elements[MOST_RECORDS];
+} alignment;
+
+static inline uint32_t u16_at(const uint8_t *b)
+{
+    return b[0] | b[1] << 8;
+}
+
+static inline uint32_t u32_at(const uint8_t *b)
+{
+    return u16_at(b) | u16_at(b + 2) << 16;
+}
+
+static inline void read_element(const uint8_t *record, element *e)
+{
+    e->kind = record[KIND_AT];
+    e->length = u32_at(record + RECORD_LENGTH_AT);
+    e->x = (int32_t)u32_at(record + X_AT);
+    e->y = (int32_t)u32_at(record + Y_AT);
+    e->c = (int32_t)u32_at(record + C_AT);
+    e->s = (int32_t)u32_at(record + S_AT);
+    e->radius = (int32_t)u32_at(record + RADIUS_AT);
+}
+
+/* the element of a station that is not before the given one, and the station of its start */
+static void seek(const alignment *a, int64_t station, int *r, int64_t *start)
+{
+    while (*r + 1 < a->count && station - *start >= a->elements[*r].length)
+        *start += a->elements[(*r)++].length;
+}
+
+/* D of a station, which is not before that of the last call */
+static uint64_t distance(const alignment *a, int64_t station, int *r, int64_t *start, int64_t x, int64_t y)
+{
+    int64_t px, py;
+    seek(a, station, r, start);
+    position(&a->elements[*r], station - *start, &px, &py);
+    return (uint64_t)((px - x) * (px - x) + (py - y) * (py - y));
 }

@@ -12,12 +12,6 @@
 #include "probes.h"
 
 typedef struct {
-    int count;
-    int64_t total;
-    element elements[MOST_RECORDS];
-} alignment;
-
-typedef struct {
     int64_t x, y, tx, ty;
 } placement;
 
@@ -40,16 +34,6 @@ static placement place(const element *e, int64_t s)
 }
 
 /* ---- the file */
-
-static uint32_t u16_at(const uint8_t *b)
-{
-    return b[0] | b[1] << 8;
-}
-
-static uint32_t u32_at(const uint8_t *b)
-{
-    return u16_at(b) | u16_at(b + 2) << 16;
-}
 
 static int zeros(const uint8_t *b, size_t n)
 {
@@ -108,13 +92,7 @@ static int accepted(const uint8_t *file, size_t length, alignment *a)
         for (int r = 0; r < (int)u16_at(block + USED_AT); r++) {
             const uint8_t *record = block + RECORD_SIZE * r;
             element *e = &a->elements[a->count++];
-            e->kind = record[KIND_AT];
-            e->length = u32_at(record + RECORD_LENGTH_AT);
-            e->x = (int32_t)u32_at(record + X_AT);
-            e->y = (int32_t)u32_at(record + Y_AT);
-            e->c = (int32_t)u32_at(record + C_AT);
-            e->s = (int32_t)u32_at(record + S_AT);
-            e->radius = (int32_t)u32_at(record + RADIUS_AT);
+            read_element(record, e);
             if (e->kind == 0 || e->kind > 15)
                 return 4;
             if (e->kind > EXIT_SPIRAL)
@@ -140,21 +118,6 @@ static int accepted(const uint8_t *file, size_t length, alignment *a)
 }
 
 /* ---- the walk */
-
-/* the element of a station that is not before the given one, and the station of its start */
-static void seek(const alignment *a, int64_t station, int *r, int64_t *start)
-{
-    while (*r + 1 < a->count && station - *start >= a->elements[*r].length)
-        *start += a->elements[(*r)++].length;
-}
-
-static uint64_t distance(const alignment *a, int64_t station, int *r, int64_t *start, int64_t x, int64_t y)
-{
-    int64_t px, py;
-    seek(a, station, r, start);
-    position(&a->elements[*r], station - *start, &px, &py);
-    return (uint64_t)((px - x) * (px - x) + (py - y) * (py - y));
-}
 
 static uint32_t plain_locate(const uint8_t *file, size_t length, int32_t x, int32_t y, uint8_t *out, size_t out_length)
 {

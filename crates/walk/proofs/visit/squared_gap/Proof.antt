@@ -1,7 +1,7 @@
 -- `walk::visit::squared_gap` meets its contract: the difference is below 2^29, so its square fits.
 use mathlib.Core.Path.{_≡_, sym, _∙_, ap, subst}
 use mathlib.Core.List.{[], _∷_}
-use Prim.Native.Nat.{_*_, _≤_}
+use Prim.Native.Nat.{_+_, _*_, _≤_}
 use native.Mathlib.Omega.{arith}
 use native.Mathlib.Nat.{mul-le-mul}
 use lib.Dec.{T}
@@ -33,7 +33,7 @@ module _ (c : tie.Start) where
 
   square-small : natAbs gap * natAbs gap ≤ widestSquare
   square-small =
-      let g : natAbs gap ≤ 462500000 = omega (arith, natAbs-- (c .args .a) (c .args .b)) in
+      let g : natAbs gap ≤ frame + widestPosition = omega (arith, natAbs-- (c .args .a) (c .args .b)) in
       omega (arith, mul-le-mul g g)
 
 sub-d : tie.Need-sub-d

@@ -1,10 +1,12 @@
 #!/usr/bin/env python3
-"""Writes the files of tools/test into a folder: accepted crests of 1 to 60 records, each with its text and readings; refused
-crests; and the list `damaged`, a line for each refused crest: its name, and what a tool has to say of it before the sentence.
+"""Writes the files of tools/test into a folder: accepted crests of 1 to 60 records, each with its text and readings, and with named
+points as CSV, in metres, also with an origin added; the same points as readings, and the names alone;
+refused crests; and the list `damaged`, a line for each refused crest: its name, and what a tool has to say of it before the sentence.
 
 usage: test_files.py FOLDER
 """
 
+import csv
 import pathlib
 import random
 import struct
@@ -16,16 +18,31 @@ import plain_files  # noqa: E402
 import random_crests  # noqa: E402
 
 COUNTS = (1, 2, 14, 15, 16, 30, 31, 45, 46, 59, 60)
+ORIGIN = (500_000 * 100_000, 4_100_000 * 100_000)  # in grains
+NAMES = ("MB01", "Pfeiler süd", "a, b", 'the "old" one', "<b> & c", "", "7;8", "√", "x" * 40, "'", "12", "-")
 ODD_READINGS = ((float("nan"), 0.0), (float("inf"), 0.0), (0.5, 0.0), (2e8, 2e8), (-1e300, 7.0))
 
 
 def readings(rng, alignment):
     points = [random_crests.random_point(rng, alignment) for _ in range(12)]
-    return b"".join(struct.pack("<dd", *point) for point in (*points, *ODD_READINGS)) + b"tail"
+    return points, packed((*points, *ODD_READINGS))
+
+
+def packed(points):
+    return b"".join(struct.pack("<dd", *point) for point in points)
+
+
+def write_points(path, points, origin=(0, 0)):
+    """Named points as CSV, in metres, an origin in grains added."""
+    with open(path, "w", encoding="utf-8", newline="") as file:
+        writer = csv.writer(file)
+        writer.writerow(("name", "x_m", "y_m"))
+        for name, point in zip(NAMES, points):
+            writer.writerow((name, *(f"{(number + more) / 100_000:.5f}" for number, more in zip(point, origin))))
 
 
 def text_of(elements):
-    """The elements as crest_text reads them, a blank between words."""
+    """The elements as crest make reads them, a blank between words."""
     names = {crest.LINE: "line", crest.ARC: "arc", crest.ENTRY: "entry", crest.EXIT: "exit"}
     rows = ((names[kind], *numbers, *([] if kind == crest.LINE else [radius])) for kind, *numbers, radius in elements)
     return "".join(" ".join(map(str, row)) + "\n" for row in rows)
@@ -63,7 +80,13 @@ def main(folder):
         file, alignment = random_crests.random_file(rng, random_crests.Wish(count=count))
         (folder / f"{count}.crest").write_bytes(file)
         (folder / f"{count}.elements").write_text(text_of(alignment.elements))
-        (folder / f"{count}.readings").write_bytes(readings(rng, alignment))
+        points, data = readings(rng, alignment)
+        (folder / f"{count}.readings").write_bytes(data)
+        write_points(folder / f"{count}.csv", points)
+        write_points(folder / f"{count}.far.csv", points, ORIGIN)
+        (folder / f"{count}.points").write_bytes(packed(points))
+        names = (name or f"(line {line})" for line, name in enumerate(NAMES, 2))
+        (folder / f"{count}.names").write_text("\n".join(names), encoding="utf-8")
     with open(folder / "damaged", "w") as told:
         for name, file, said in damaged():
             number, place = plain_files.file_refusal(file)

@@ -36,6 +36,7 @@ import random_crests  # noqa: E402
 import test_files  # noqa: E402
 from desk import commands, library, units  # noqa: E402
 from desk.words import parsers  # noqa: E402
+from test_cases import Cases  # noqa: E402
 
 ONE = 2**30
 SENTENCES = re.findall(r'^ *"(.*)",$', (ROOT / "include" / "crest_text.h").read_text(), re.MULTILINE)
@@ -44,30 +45,11 @@ ANGLES = ("pair", "degrees", "gon", "bearing", "bearing-gon")
 TURN = {"degrees": 360, "gon": 400, "bearing": 360, "bearing-gon": 400}
 DIGITS = {"m": (5, 3), "mm": (2, 0), "grains": (0, 0)}  # after the point: of grains, of mm
 K = ROOT / "examples" / "k.crest"
-count = failed = 0
+CASES = Cases("desk")
+case, same = CASES.case, CASES.same
 
 
-# ---- cases
-
-
-def case(what, good, *seen):
-    global count, failed
-    count += 1
-    if not good:
-        failed += 1
-        print(f"desk: failed: {what}", *(f": {one}" for one in seen), flush=True)
-    return good
-
-
-def same(what, found, wanted):
-    return case(what, found == wanted, f"\n{shortened(found, wanted)}\n  instead of\n{shortened(wanted, found)}")
-
-
-def shortened(value, other, most=700):
-    """A value's text, or the part of it from a little before the first difference on."""
-    text, other = repr(value), repr(other)
-    first = next((at for at, (one, two) in enumerate(zip(text, other)) if one != two), 0)
-    return text if len(text) <= most else ".." + text[max(0, first - 100) : first + most] + ".."
+# ---- commands
 
 
 class Said(NamedTuple):
@@ -1871,8 +1853,7 @@ def main(names):
             except Exception:
                 case(f"section {name} to its end", False, traceback.format_exc())
         os.chdir("/")
-    print(f"desk: {count} cases, {failed} failed")
-    return int(failed > 0 or count == 0)
+    return CASES.end()
 
 
 if __name__ == "__main__":

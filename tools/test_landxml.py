@@ -21,22 +21,12 @@ sys.path.insert(0, str(HERE))
 from desk import landxml, library, units  # noqa: E402
 from desk.elements import ARC, ENTRY, EXIT, LINE, Element  # noqa: E402
 from desk.files import Trouble  # noqa: E402
+from test_cases import Cases  # noqa: E402
 
 FILES = HERE / "landxml"
 GRAINS, ONE = 100_000, 2**30  # to 1 m, to 1
-count = failed = 0
-
-
-def case(what, good, *seen):
-    global count, failed
-    count += 1
-    if not good:
-        failed += 1
-        print(f"landxml: failed: {what}", *(f": {one}" for one in seen))
-
-
-def same(what, found, wanted):
-    case(what, found == wanted, f"{found!r} instead of {wanted!r}")
+CASES = Cases("landxml")
+case, same = CASES.case, CASES.same
 
 
 def text_of(name):
@@ -596,8 +586,7 @@ def shape():
 def main():
     for cases in (dam, utm, feet, every_unit, two, split, sentences, roundings, computed, faults, unit_faults, files, encodings, shape):
         attempt(cases)
-    print(f"landxml: {count} cases, {failed} failed")
-    return 1 if failed else 0
+    return CASES.end()
 
 
 if __name__ == "__main__":

@@ -10,6 +10,7 @@ from typing import NamedTuple
 
 from . import library, units
 from .elements import ARC, ENTRY, LINE
+from .files import plural
 
 UNITS_PER_MM = 5
 UPRIGHT = {"a4": (210, 297), "a3": (297, 420), "letter": (215.9, 279.4)}  # mm
@@ -106,10 +107,6 @@ def isolated(name):
 
 def text(x, y, words, colour=INK, more=""):
     return f'<text x="{x:.1f}" y="{y:.1f}" fill="{colour}"{more}>{escaped(words)}</text>'
-
-
-def counted(count, what):
-    return f"{count} {what}{'' if count == 1 else 's'}"
 
 
 def metres(mm):
@@ -822,10 +819,10 @@ def heading(sheet, title, spans, marks):
     size = 18
     shown = end_of(clean(title), sheet.right - sheet.left, 1.1 * size)  # bold letters are wider
     yield text(sheet.left, sheet.top + size, shown, INK, f' font-size="{size}" font-weight="bold"')
-    words = f"{counted(len(spans), 'element')}, {metres(end_station(spans))}"
+    words = f"{plural(len(spans), 'element')}, {metres(end_station(spans))}"
     if marks is not None:
         refused = sum(map(is_refused, marks))
-        words += f"; {counted(len(marks), 'reading')}, {len(marks) - refused} answered, {refused} refused"
+        words += f"; {plural(len(marks), 'reading')}, {len(marks) - refused} answered, {refused} refused"
     yield text(sheet.left, sheet.top + 37, words)
 
 

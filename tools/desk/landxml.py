@@ -13,6 +13,7 @@ from xml.parsers import expat
 from . import library, units
 from .elements import ARC, ENTRY, EXIT, LINE, Element
 from .files import Trouble, input_name, read
+from .joins import crest_of
 from .tables import COORDINATE, LENGTH, Rounding
 
 MOST_BYTES = 50_000_000
@@ -552,7 +553,7 @@ def written(elements):
     fields = [element._asdict() for element in elements]
     if not all(library.fits(numbers[name], name) for numbers in fields for name in library.WIDTHS):
         return None
-    return library.write(b"".join(library.RECORD.pack(*element[:7]) for element in elements))
+    return crest_of(elements)
 
 
 def tell_misfits(elements, faults):

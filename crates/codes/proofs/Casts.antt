@@ -1,27 +1,16 @@
--- A number of 32 bits is kept by the casts to 64 bits and back, and so are a point of two such numbers and a field or two that hold them.
+-- A point of two numbers of 32 bits is kept by the casts to 64 bits and back, and so is a field or two that hold such numbers.
 use Prim.Native.Nat.{ℕ, _^_, _<_}
 use mathlib.Core.List.{List}
-use mathlib.Core.Path.{_≡_, sym, ap, ap₂, _∙_, subst}
+use mathlib.Core.Path.{_≡_, ap, ap₂, _∙_}
 use lib.IntN.{ℤ}
 use lib.Signed.{mag}
 use mir.Syntax.{w32, w64}
 use mir.Val.{SFits, toZ, ofZ}
-use mir.Facts.{sfits-widen}
 use mir.ValLaws.{toZ-ofZ}
 use Rattle.model.specs.declared.Point.{Point}
 use Rattle.model.specs.Records.{put, i32Bytes}
 use Rattle.run.proofs.Narrow.{narrow}
 use Rattle.codes.specs.Codes.{putTwo}
-
-module _ (z : ℤ) (fits : SFits w32 z) where
-  same : toZ w32 (ofZ w32 z) ≡ z
-  same = toZ-ofZ w32 z fits
-
-  pub wide-fits : SFits w64 (toZ w32 (ofZ w32 z))
-  wide-fits = subst (λ (y : ℤ). SFits w64 y) (sym same) (sfits-widen tt fits)
-
-  pub widened : toZ w64 (ofZ w64 (toZ w32 (ofZ w32 z))) ≡ z
-  widened = ap (λ (y : ℤ). toZ w64 (ofZ w64 y)) same ∙ toZ-ofZ w64 z (sfits-widen tt fits)
 
 -- a point of two arguments, as the call gets them
 pub as-came : {p : Point} {x y : ℤ} → SFits w32 x → SFits w32 y → p ≡ record { x = toZ w32 (ofZ w32 x); y = toZ w32 (ofZ w32 y) } → p ≡ record { x = x; y = y }

@@ -1,7 +1,6 @@
-// What a C call returns and writes: an answer's number and place in 32 bits, and numbers of 32 bits as a point and in lent bytes.
+// What a C call returns and writes: an answer's number and place in 32 bits, and numbers of 32 bits in lent bytes.
 use model::Move;
 use model::Outcome;
-use model::Point;
 use model::ReadingAnswer;
 use model::Refusal;
 use model::layout;
@@ -49,15 +48,6 @@ pub fn answer_code(answer: ReadingAnswer) -> u32
         } => 0,
         ReadingAnswer::LinePlace { x: _, y: _ } => 0,
         ReadingAnswer::Refused(why) => code_of(why),
-    }
-}
-
-pub fn point(x: i32, y: i32) -> Point
-    ensures { λ r. ⌜ r ≡ record { x = x; y = y } ⌝ }
-{
-    Point {
-        x: x as i64,
-        y: y as i64,
     }
 }
 

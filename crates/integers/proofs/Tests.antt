@@ -1,10 +1,13 @@
 -- Tests as facts: a test of two tests holds exactly when the facts of both do.
-use Prim.Native.Nat.{ℕ, _≤_}
+use Prim.Native.Nat.{ℕ, _≤_, _<_}
+use native.Mathlib.Omega.{arith}
 use mathlib.Core.Bool.{Bool, true, false, _&&_, _||_, and-eq-true-iff, false≢true}
 use mathlib.Core.Logic.{_⊎_, inl, inr, _↔_}
 use mathlib.Core.Path.{_≡_, refl, sym}
-use borrow.Author.Tests.{eqb-true, eq-eqb, leb-true, le-leb}
+use borrow.Author.Tests.{eqb-true, eq-eqb, leb-true, le-leb, ltb-true}
 use lib.Dec.{leb, eqb}
+use lib.IntN.{ℤ, pos, negsuc}
+use lib.Signed.{nonNeg, ltZ}
 
 pub eq-test : (m n : ℕ) → (eqb m n ≡ true) ↔ (m ≡ n)
 eq-test m n = (eqb-true m n, eq-eqb m n)
@@ -34,3 +37,13 @@ and-fails true b = ((λ e. inr e), go)
     go (inl e) = absurd (false≢true (sym e))
     go (inr e) = e
 and-fails false b = ((λ e. inl refl), (λ e. refl))
+
+-- ---- the sign of a number
+
+pub below-0 : (z : ℤ) → ltZ z (pos 0) ≡ true → nonNeg z ≡ false
+below-0 (pos n) h = let k : n < 0 = ltb-true n 0 h in absurd (omega arith)
+below-0 (negsuc n) h = refl
+
+pub not-below-0 : (z : ℤ) → ltZ z (pos 0) ≡ false → nonNeg z ≡ true
+not-below-0 (pos n) h = refl
+not-below-0 (negsuc n) h = sym h

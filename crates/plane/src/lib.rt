@@ -1,8 +1,19 @@
-// Points and directions of the plane: whether a point lies in the frame, and whether a direction is a unit.
+// Points and directions of the plane: a point of two numbers, whether it lies in the frame, and whether a direction is a unit.
 use integers::magnitude;
+use model::Point;
 use model::limits;
 ghost use mathlib.Core.Path.{_≡_};
 ghost use Rattle.model.specs.Acceptance.{inFrame, isUnit};
+
+// The point of two numbers of 32 bits, or a direction of two such components.
+pub fn point(x: i32, y: i32) -> Point
+    ensures { λ r. ⌜ r ≡ record { x = x; y = y } ⌝ }
+{
+    Point {
+        x: x as i64,
+        y: y as i64,
+    }
+}
 
 // Whether a point lies in the frame.
 pub fn in_frame(x: i64, y: i64) -> bool

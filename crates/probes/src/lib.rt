@@ -1,6 +1,5 @@
 // Calls for tests and tools: a crest's bytes, a question in numbers, and room for the answer; and the bytes of a record, copied.
 use codes::code_of;
-use codes::point;
 use codes::put_two;
 use entries::inverse;
 use entries::locate;
@@ -15,6 +14,7 @@ use model::Placed;
 use model::Refusal;
 use model::layout;
 use model::refusals;
+use plane::point;
 ghost use mathlib.Core.Path.{_≡_};
 ghost use lib.ListN.{length};
 ghost use lib.IntN.{pos};

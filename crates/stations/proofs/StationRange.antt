@@ -2,30 +2,22 @@
 use Prim.Native.Nat.{_≤_, _<_, _^_}
 use mathlib.Core.Bool.{true, false}
 use mathlib.Core.List.{List}
-use mathlib.Core.Path.{_≡_, refl, sym, subst}
+use mathlib.Core.Path.{_≡_, sym, subst}
 use native.Mathlib.Omega.{arith}
-use borrow.Author.Tests.{ltb-true}
 use lib.Dec.{T, leb, leb→le}
 use lib.IntN.{ℤ, pos, negsuc, natAbs}
 use lib.Signed.{nonNeg, ltZ}
 use mir.Facts.{toZ-ofZ, and-yes}
 use mir.Syntax.{w64}
 use mir.Val.{Fits, SFits, toZ, ofZ}
+use Rattle.integers.proofs.Tests.{below-0, not-below-0}
 use Rattle.model.specs.declared.Element.{Element}
 use Rattle.model.specs.Stations.{isStation, total}
-
-negative : (s : ℤ) → ltZ s (pos 0) ≡ true → nonNeg s ≡ false
-negative (pos n) h = let k : n < 0 = ltb-true n 0 h in absurd (omega arith)
-negative (negsuc n) h = refl
-
-pub not-below-0 : (s : ℤ) → ltZ s (pos 0) ≡ false → nonNeg s ≡ true
-not-below-0 (pos n) h = refl
-not-below-0 (negsuc n) h = sym h
 
 module _ (es : List Element) (s : ℤ) where
   pub below-start : ltZ s (pos 0) ≡ true → isStation es s ≡ false
   unfolding isStation
-  below-start h = rw (negative s h)
+  below-start h = rw (below-0 s h)
 
   pub from-start : ltZ s (pos 0) ≡ false → isStation es s ≡ leb (natAbs s) (total es)
   unfolding isStation

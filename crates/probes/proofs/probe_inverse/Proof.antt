@@ -6,7 +6,7 @@ use mir.ValLaws.{toZ-pos}
 use denote.Ref.{now}
 use Rattle.model.specs.Crest.{Crest, fileCrest}
 use Rattle.model.specs.Answers.{inverse}
-use Rattle.codes.proofs.Casts.{wide-fits, widened}
+use Rattle.integers.proofs.Held.{wide-fits, widened}
 use Rattle.sources.proofs.Sound.{file-sound}
 use Rattle.probes.specs.Replies.{replyOfInverse}
 use Rattle.probes.proofs.Rooms.{inverse-18, inverse-call-sent, sent-as}

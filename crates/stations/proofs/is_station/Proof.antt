@@ -7,9 +7,10 @@ use lib.Dec.{T, leb}
 use lib.IntN.{pos, natAbs}
 use lib.Signed.{ltZ}
 use mir.Facts.{toZ-ofZ}
+use Rattle.integers.proofs.Tests.{not-below-0}
 use Rattle.model.specs.declared.Element.{Element}
 use Rattle.sources.specs.Sources.{elementsLent}
-use Rattle.stations.proofs.StationRange.{below-start, from-start, not-below-0, held-casts}
+use Rattle.stations.proofs.StationRange.{below-start, from-start, held-casts}
 use Rattle.stations.proofs.is_station.Statement.{statement}
 use Rattle.stations.proofs.is_station.Tie as tie
 

@@ -1,7 +1,7 @@
--- `codes::point` meets its contract: the casts keep both numbers.
-use Rattle.codes.proofs.Casts.{wide-fits, widened}
-use Rattle.codes.proofs.point.Statement.{statement}
-use Rattle.codes.proofs.point.Tie as tie
+-- `plane::point` meets its contract: the casts keep both numbers.
+use Rattle.integers.proofs.Held.{wide-fits, widened}
+use Rattle.plane.proofs.point.Statement.{statement}
+use Rattle.plane.proofs.point.Tie as tie
 
 cast-t3 : tie.Need-cast-t3
 cast-t3 c = search wide-fits

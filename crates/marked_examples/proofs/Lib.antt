@@ -2,3 +2,4 @@
 pub mod Examples
 pub mod Program
 pub mod WrongPrograms
+pub mod SightingExample

@@ -19,14 +19,18 @@ use Rattle.model.specs.declared.Inverse.the-variants.{Refused as Inverse
 use Rattle.model.specs.declared.Move.the-variants.{Refused as MoveRefused}
 use Rattle.model.specs.declared.Reading.{Reading}
 use Rattle.model.specs.declared.Reading.the-variants.{PlanePoint, LinePlace}
+use Rattle.model.specs.declared.Sighting.{Sighting}
+use Rattle.model.specs.declared.Observation.{Observation}
+use Rattle.model.specs.declared.Observation.the-variants.{Read, Sighted}
 use Rattle.model.specs.declared.ReadingAnswer.{ReadingAnswer}
 use Rattle.model.specs.declared.ReadingAnswer.the-variants.{Refused as AnswerRefused}
 use Rattle.model.specs.declared.Run.{Run}
 use Rattle.model.specs.declared.Noted.{Noted}
 use Rattle.model.specs.Refusals.{Rule, verdict}
 use Rattle.model.specs.Crest.{Crest}
-use Rattle.model.specs.Answers.{PaperAnswer, answeredWith, refusedWith, paperIf, paperOfOutcome, Question, answerIf, answerAfter, answerOf, paperAfter, askedPaper, stationRules, stationQuestion, paperOfPlaced, pointRules, pointQuestion, paperOfLocated, lineRules, placeQuestion, paperOfInverse, moveRules, moveQuestion, paperOfMove}
-use Rattle.model.specs.Readings.{wholeOf, valueOf, numberRules, fromLocated, fromInverse, numberedQuestion, readingQuestion, answerTo, valueCount, paperOfReading}
+use Rattle.model.specs.Answers.{PaperAnswer, answeredWith, refusedWith, paperIf, paperOfOutcome, Question, answerIf, answerAfter, answerOf, paperAfter, askedPaper, stationRules, stationQuestion, paperOfPlaced, pointRules, pointQuestion, locatedOn, paperOfLocated, lineRules, placeQuestion, paperOfInverse, moveRules, moveQuestion, paperOfMove}
+use Rattle.model.specs.Readings.{wholeOf, valueOf, numberRules, fromLocated, fromInverse, putAfter, readingQuestion, valueCount, paperOfReading}
+use Rattle.model.specs.Sightings.{sightRules, sightedOf, sightQuestion, sightingQuestion, sightedOn, observedQuestion, observedTo, observedCount, sightedMoveRules, sightedMoveQuestion}
 use Rattle.model.specs.Run.{fullRules, notedIf, noted, notedPaperIf, notedPaper}
 use Rattle.model.proofs.Verdict.{verdict-after, refused-before}
 
@@ -138,34 +142,71 @@ move-tells own target c s =
     record { refuses = λ why. refl; values = refl; zeros = λ why. refl; apart = λ why e. clash cc; one = λ e. cc; bare = next refl (next refl (next refl none)) }
 
 pub reading-tells : (r : Reading) (es : List Element) → Tells AnswerRefused (paperOfReading (valueCount r)) (readingQuestion r es)
-unfolding numberRules pointRules lineRules readingQuestion numberedQuestion pointQuestion placeQuestion fromLocated fromInverse valueCount paperOfReading
+unfolding numberRules pointRules lineRules readingQuestion putAfter pointQuestion placeQuestion fromLocated fromInverse valueCount paperOfReading
 reading-tells (PlanePoint x y) es =
     record { refuses = λ why. refl; values = refl; zeros = λ why. refl; apart = λ why e. clash cc; one = λ e. cc; bare = next refl (next refl (next refl (next refl (next refl none)))) }
 reading-tells (LinePlace station offset) es =
     record { refuses = λ why. refl; values = refl; zeros = λ why. refl; apart = λ why e. clash cc; one = λ e. cc; bare = next refl (next refl (next refl none)) }
 
--- ---- a reading's question is that of its numbers, after the rule that both are whole
+-- the four rules of a sighting's own, and others
+sight-bare : (k : Sighting) {rs : List Rule} → Bare rs → Bare (sightRules k ++ rs)
+unfolding sightRules
+sight-bare k rest = next refl (next refl (next refl (next refl rest)))
 
-module _ {A : Type 0} (a b : Float) (from : A → ReadingAnswer) (q : Question A) (refuses : (why : Refusal) → from (q .refused why) ≡ AnswerRefused why) (before : List Rule) where
-  numbered-by : (o : Outcome) → answerIf o (numberedQuestion a b from q) ≡ from (answerIf o q)
-  unfolding answerIf numberedQuestion
-  numbered-by Done = refl
-  numbered-by (Refused why) = sym (refuses why)
+pub sight-tells : (k : Sighting) → Tells PlacedRefused paperOfPlaced (sightQuestion k)
+unfolding sightRules sightQuestion paperOfPlaced
+sight-tells k =
+    record { refuses = λ why. refl; values = refl; zeros = λ why. refl; apart = λ why e. clash cc; one = λ e. cc; bare = sight-bare k none }
 
-  pub numbered : answerAfter before (numberedQuestion a b from q) ≡ from (answerAfter (before ++ numberRules a b) q)
-  unfolding answerAfter numberedQuestion
-  numbered = numbered-by (verdict (before ++ (numberRules a b ++ q .order))) ∙ ap (λ rs. from (answerIf (verdict rs) q)) (sym (append-assoc before (numberRules a b) (q .order)))
+pub sighting-tells : (k : Sighting) (es : List Element) → Tells AnswerRefused (paperOfReading 4) (sightingQuestion k es)
+unfolding pointRules sightingQuestion putAfter pointQuestion fromLocated paperOfReading
+sighting-tells k es =
+    record { refuses = λ why. refl; values = refl; zeros = λ why. refl; apart = λ why e. clash cc; one = λ e. cc; bare = sight-bare k (next refl (next refl (next refl (next refl none)))) }
+
+pub sighted-move-tells : (k : Sighting) (target : Point) → Tells MoveRefused paperOfMove (sightedMoveQuestion k target)
+unfolding sightedMoveRules sightedMoveQuestion paperOfMove
+sighted-move-tells k target =
+    record { refuses = λ why. refl; values = refl; zeros = λ why. refl; apart = λ why e. clash cc; one = λ e. cc; bare = sight-bare k (next refl (next refl none)) }
+
+pub observed-tells : (o : Observation) (es : List Element) → Tells AnswerRefused (paperOfReading (observedCount o)) (observedQuestion o es)
+unfolding observedQuestion observedCount
+observed-tells (Read r) es = reading-tells r es
+observed-tells (Sighted k) es = sighting-tells k es
+
+-- ---- a question after rules of its own numbers: that a reading's are whole, or those of a sighting
+
+module _ {A : Type 0} (rules : List Rule) (from : A → ReadingAnswer) (q : Question A) (refuses : (why : Refusal) → from (q .refused why) ≡ AnswerRefused why) (before : List Rule) where
+  put-by : (o : Outcome) → answerIf o (putAfter rules from q) ≡ from (answerIf o q)
+  unfolding answerIf putAfter
+  put-by Done = refl
+  put-by (Refused why) = sym (refuses why)
+
+  pub put-after : answerAfter before (putAfter rules from q) ≡ from (answerAfter (before ++ rules) q)
+  unfolding answerAfter putAfter
+  put-after = put-by (verdict (before ++ (rules ++ q .order))) ∙ ap (λ rs. from (answerIf (verdict rs) q)) (sym (append-assoc before rules (q .order)))
 
 module _ (before : List Rule) (a b : Float) (es : List Element) where
   pub plane-asked : answerAfter before (readingQuestion (PlanePoint a b) es) ≡ fromLocated (answerAfter (before ++ numberRules a b) (pointQuestion (record { x = valueOf (wholeOf a); y = valueOf (wholeOf b) }) es))
   unfolding readingQuestion pointQuestion fromLocated
-  plane-asked = numbered a b fromLocated _ (λ why. refl) before
+  plane-asked = put-after (numberRules a b) fromLocated _ (λ why. refl) before
 
   pub line-asked : answerAfter before (readingQuestion (LinePlace a b) es) ≡ fromInverse (answerAfter (before ++ numberRules a b) (placeQuestion (valueOf (wholeOf a)) (valueOf (wholeOf b)) es))
   unfolding readingQuestion placeQuestion fromInverse
-  line-asked = numbered a b fromInverse _ (λ why. refl) before
+  line-asked = put-after (numberRules a b) fromInverse _ (λ why. refl) before
 
--- ---- a reading on a run: 16 has as many zeros as the question has values
+pub sighting-asked : (before : List Rule) (k : Sighting) (es : List Element) → answerAfter before (sightingQuestion k es) ≡ fromLocated (answerAfter (before ++ sightRules k) (pointQuestion (sightedOf k) es))
+unfolding sightingQuestion pointQuestion fromLocated
+sighting-asked before k es = put-after (sightRules k) fromLocated _ (λ why. refl) before
+
+-- its own refusal, and else what its point comes to
+pub sighting-refused : (es : List Element) (k : Sighting) {why : Refusal} → verdict (sightRules k) ≡ Refused why → sightedOn es k ≡ AnswerRefused why
+unfolding pointQuestion fromLocated
+sighting-refused es k e = sighting-asked [] k es ∙ ap fromLocated (told-refused (point-tells (sightedOf k) es) (sightRules k) e)
+
+pub sighting-located : (es : List Element) (k : Sighting) → verdict (sightRules k) ≡ Done → sightedOn es k ≡ fromLocated (locatedOn es (sightedOf k))
+sighting-located es k e = sighting-asked [] k es ∙ ap fromLocated (rules-hold (pointQuestion (sightedOf k) es) (sightRules k) e)
+
+-- ---- a reading or a sighting on a run: 16 has as many zeros as the question has values
 
 noted-by : (o : Outcome) (n : ℕ) (p : PaperAnswer) (a : ReadingAnswer) (run : Run) → paperOfReading n a ≡ p → length (p .values) ≡ n → paperOfReading n (notedIf o a run .answer) ≡ notedPaperIf o p
 unfolding paperOfReading notedIf notedPaperIf
@@ -177,18 +218,19 @@ unfolding paperIf
 paper-values Done values = refl
 paper-values (Refused r) values = length-replicate (length values) (pos 0)
 
-value-count : (r : Reading) (es : List Element) → length (readingQuestion r es .values) ≡ valueCount r
-unfolding readingQuestion numberedQuestion pointQuestion placeQuestion valueCount
-value-count (PlanePoint x y) es = refl
-value-count (LinePlace station offset) es = refl
+value-count : (o : Observation) (es : List Element) → length (observedQuestion o es .values) ≡ observedCount o
+unfolding observedQuestion readingQuestion sightingQuestion putAfter pointQuestion placeQuestion valueCount observedCount
+value-count (Read (PlanePoint x y)) es = refl
+value-count (Read (LinePlace station offset)) es = refl
+value-count (Sighted k) es = refl
 
-noted-paper : (c : Crest) (r : Reading) (run : Run) → paperOfReading (valueCount r) (noted (answerTo c r) run .answer) ≡ notedPaper (askedPaper (readingQuestion r) c) run
+noted-paper : (c : Crest) (o : Observation) (run : Run) → paperOfReading (observedCount o) (noted (observedTo c o) run .answer) ≡ notedPaper (askedPaper (observedQuestion o) c) run
 unfolding noted notedPaper paperAfter
-noted-paper c r run =
-    let q = readingQuestion r (c .elements) in
-    noted-by (verdict (fullRules run)) (valueCount r) (askedPaper (readingQuestion r) c) (answerTo c r) run (told-paper (reading-tells r (c .elements)) (c .rules))
-    (paper-values (verdict (c .rules ++ q .order)) (q .values) ∙ value-count r (c .elements))
+noted-paper c o run =
+    let q = observedQuestion o (c .elements) in
+    noted-by (verdict (fullRules run)) (observedCount o) (askedPaper (observedQuestion o) c) (observedTo c o) run (told-paper (observed-tells o (c .elements)) (c .rules))
+    (paper-values (verdict (c .rules ++ q .order)) (q .values) ∙ value-count o (c .elements))
 
-pub told-noted : (c : Crest) (r : Reading) (run : Run) {n : Noted} → n ≡ noted (answerTo c r) run →
-    (n ≡ noted (answerTo c r) run) × (paperOfReading (valueCount r) (n .answer) ≡ notedPaper (askedPaper (readingQuestion r) c) run)
-told-noted c r run e = (e, ap (λ n. paperOfReading (valueCount r) (n .answer)) e ∙ noted-paper c r run)
+pub told-noted : (c : Crest) (o : Observation) (run : Run) {n : Noted} → n ≡ noted (observedTo c o) run →
+    (n ≡ noted (observedTo c o) run) × (paperOfReading (observedCount o) (n .answer) ≡ notedPaper (askedPaper (observedQuestion o) c) run)
+told-noted c o run e = (e, ap (λ n. paperOfReading (observedCount o) (n .answer)) e ∙ noted-paper c o run)

@@ -238,14 +238,14 @@ unfoldable pub leftOf : Point → Point → ℤ → ℤ → ℤ
 unfolding near minus
 leftOf own target c s = let d = minus target own in near (negℤ s *ℤ d .x +ℤ c *ℤ d .y) ONE
 
+-- 11 for either end of a move
+abbrev pub endRules : Point → Point → List Rule
+endRules own target = rule₀ outsideFrame (inFrame (own .x) (own .y)) ∷ rule₀ outsideFrame (inFrame (target .x) (target .y)) ∷ []
+
 -- "11 ..; 7 for a heading"
 unfoldable pub moveRules : Point → Point → ℤ → ℤ → List Rule
 unfolding inFrame isUnit
-moveRules own target c s =
-    rule₀ outsideFrame (inFrame (own .x) (own .y))
-    ∷ rule₀ outsideFrame (inFrame (target .x) (target .y))
-    ∷ rule₀ notUnit (isUnit c s)
-    ∷ []
+moveRules own target c s = endRules own target ++ (rule₀ notUnit (isUnit c s) ∷ [])
 
 -- "Stake-out (source document 003), own point, target and heading (c, s)": forward, left
 unfoldable pub moveQuestion : Point → Point → ℤ → ℤ → Question Move

@@ -15,6 +15,7 @@ pub mod Judged
 pub mod Walk
 pub mod Answers
 pub mod Readings
+pub mod Sightings
 pub mod Run
 pub mod Calls
 pub mod Histories

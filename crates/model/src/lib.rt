@@ -108,7 +108,7 @@ pub fn refused(number: u32, place: u32) -> Outcome
     Outcome::Refused(Refusal { number, place })
 }
 
-// Position and direction at a station.
+// Position and direction at a station, or of what was sighted.
 pub enum Placed {
     At { x: i64, y: i64, tx: i64, ty: i64 },
     Refused(Refusal),
@@ -143,7 +143,25 @@ pub enum Reading {
     LinePlace { station: f64, offset: f64 },
 }
 
-// What a reading on a crest comes to.
+// A sighting: the place of the instrument in grains, the direction to a backsight and the angle turned from it to the prism, each as cosine and
+// sine with ONE for 1, and the horizontal distance to the prism in grains.
+pub struct Sighting {
+    pub x: i32,
+    pub y: i32,
+    pub backsight_c: i32,
+    pub backsight_s: i32,
+    pub angle_c: i32,
+    pub angle_s: i32,
+    pub distance: i32,
+}
+
+// What is put to a crest and counted on a run: a reading or a sighting.
+pub enum Observation {
+    Read(Reading),
+    Sighted(Sighting),
+}
+
+// What a reading or a sighting on a crest comes to.
 pub enum ReadingAnswer {
     PlanePoint {
         station: u64,
@@ -178,7 +196,7 @@ pub struct Run {
     pub three: i32,
 }
 
-// What a reading on a run came to, and the run afterwards.
+// What a reading or a sighting on a run came to, and the run afterwards.
 pub struct Noted {
     pub answer: ReadingAnswer,
     pub run: Run,

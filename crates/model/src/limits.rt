@@ -1,4 +1,4 @@
-// The limits of document 01: what a crest may hold, how far a question may reach, the walk's steps and how many readings a run counts.
+// The limits of documents 01 and 02: what a crest may hold, how far a question may reach, the walk's steps and how many readings a run counts.
 // The names are those of the definitions in specs/, where these give a number a name.
 
 // "L from 1 to 500,000"
@@ -27,6 +27,9 @@ pub const WIDEST_KINK: u64 = 1000000;
 
 // "Inverse of station s and offset w, |w| ≤ 20,000,000"
 pub const WIDEST_OFFSET: u64 = 20000000;
+
+// Document 02: "a horizontal distance of 0 to 50,000,000 grains"
+pub const LONGEST_SIGHT: u64 = 50000000;
 
 // "least D above 400,000,000,000,000"
 pub const FARTHEST: u64 = 400000000000000;

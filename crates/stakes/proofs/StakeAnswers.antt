@@ -42,13 +42,13 @@ module _ (own target : Point) (c s : ℤ) where
       unfolding isUnit
       stakeable h =
           let u : natAbs (c *ℤ c +ℤ s *ℤ s -ℤ pos unitSquare) ≤ unitSlack = leb-true _ _ h in
-          record { from = framed own f; to = framed target g; first = unit-within c s u; second = unit-within′ c s u }
+          record { from = framed own f; to = framed target g; first = omega (arith, unit-within c s u); second = omega (arith, unit-within′ c s u) }
 
 apart : (a b : ℤ) → natAbs a ≤ frame → natAbs b ≤ frame → natAbs (a -ℤ b) ≤ 2 * frame
 apart a b h k = omega (arith, natAbs-- a b)
 
--- a move along either axis is below 2^30: the products of a component and a difference are at most 400,000,000 times ONE
-moved-small : (own target : Point) (c s : ℤ) {forward left : ℤ} → Stakeable own target c s → By (forwardOf own target c s) (leftOf own target c s) ≡ By forward left → (natAbs forward ≤ 4 * frame) × (natAbs left ≤ 4 * frame)
+-- a move along either axis is below 2^31: the products of a component and a difference are at most 800,000,000 times ONE
+pub moved-small : (own target : Point) (c s : ℤ) {forward left : ℤ} → Stakeable own target c s → By (forwardOf own target c s) (leftOf own target c s) ≡ By forward left → (natAbs forward ≤ 8 * frame) × (natAbs left ≤ 8 * frame)
 unfolding forwardOf leftOf minus
 moved-small own target c s {forward} {left} k e =
     let dx = target .x -ℤ own .x in
@@ -57,14 +57,14 @@ moved-small own target c s {forward} {left} k e =
     let y = apart (target .y) (own .y) (k .to .y) (k .from .y) in
     let f : forward ≡ near (c *ℤ dx +ℤ s *ℤ dy) ONE = cc in
     let l : left ≡ near (negℤ s *ℤ dx +ℤ c *ℤ dy) ONE = cc in
-    let m : natAbs (negℤ s) ≤ ONE = omega (arith, natAbs-neg s, k .second) in
-    (rw f (near-turn 1 c dx s dy (k .first) (k .second) x y .1), rw l (near-turn 1 (negℤ s) dx c dy m (k .first) x y .1))
+    let m : natAbs (negℤ s) ≤ 2 * ONE = omega (arith, natAbs-neg s, k .second) in
+    (rw f (near-turn 2 c dx s dy (k .first) (k .second) x y .1), rw l (near-turn 2 (negℤ s) dx c dy m (k .first) x y .1))
 
 -- what is answered fits an i32
-pub move-small : (own target : Point) (c s : ℤ) {forward left : ℤ} → stakeOut own target c s ≡ By forward left → (natAbs forward ≤ 4 * frame) × (natAbs left ≤ 4 * frame)
+pub move-small : (own target : Point) (c s : ℤ) {forward left : ℤ} → stakeOut own target c s ≡ By forward left → (natAbs forward ≤ 8 * frame) × (natAbs left ≤ 8 * frame)
 move-small own target c s {forward} {left} e = go (inFrame (own .x) (own .y)) refl (inFrame (target .x) (target .y)) refl (isUnit c s) refl
   where
-    go : (f : Bool) → inFrame (own .x) (own .y) ≡ f → (g : Bool) → inFrame (target .x) (target .y) ≡ g → (u : Bool) → isUnit c s ≡ u → (natAbs forward ≤ 4 * frame) × (natAbs left ≤ 4 * frame)
+    go : (f : Bool) → inFrame (own .x) (own .y) ≡ f → (g : Bool) → inFrame (target .x) (target .y) ≡ g → (u : Bool) → isUnit c s ≡ u → (natAbs forward ≤ 8 * frame) × (natAbs left ≤ 8 * frame)
     go false h g i u j = let r = own-outside own target c s h in clash cc
     go true h false i u j = let r = target-outside own target c s h i in clash cc
     go true h true i false j = let r = no-unit own target c s h i j in clash cc

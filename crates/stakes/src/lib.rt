@@ -11,8 +11,8 @@ ghost use mathlib.Core.Path.{_≡_};
 ghost use Rattle.model.specs.Answers.{paperAfter, forwardOf, leftOf, moveQuestion, stakeOut, paperOfMove};
 ghost use Rattle.stakes.specs.StakeRanges.{Stakeable};
 
-// The move between two points of the frame.
-fn move_by(own: Point, target: Point, c: i64, s: i64) -> Move
+// The move between two points of the frame, under a heading that need not be a unit.
+pub fn move_by(own: Point, target: Point, c: i64, s: i64) -> Move
     requires { ⌜ Stakeable own target c s ⌝ }
     ensures { λ r. ⌜ r ≡ Move.By (forwardOf own target c s) (leftOf own target c s) ⌝ }
 {

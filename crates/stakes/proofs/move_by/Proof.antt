@@ -1,4 +1,5 @@
 -- `stakes::move_by` meets its contract: the difference of the two points, along the heading and to its left.
+use Prim.Native.Nat.{_*_}
 use mathlib.Core.List.{[], _∷_}
 use mathlib.Core.Path.{_≡_, ap, _∙_}
 use lib.IntN.{ℤ, pos, negℤ, _+ℤ_, _-ℤ_, _*ℤ_}
@@ -18,7 +19,7 @@ module _ (c : tie.Start) where
   abbrev Γ : Env
   Γ =
       env (c .args .own .x ∷ c .args .own .y ∷ c .args .target .x ∷ c .args .target .y ∷ c .args .c ∷ c .args .s ∷ [])
-      (frame ∷ frame ∷ frame ∷ frame ∷ ONE ∷ ONE ∷ [])
+      (frame ∷ frame ∷ frame ∷ frame ∷ 2 * ONE ∷ 2 * ONE ∷ [])
       (c .pre .from .x, (c .pre .from .y, (c .pre .to .x, (c .pre .to .y, (c .pre .first, (c .pre .second, tt))))))
 
   abbrev dx : ℤ

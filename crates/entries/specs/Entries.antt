@@ -1,4 +1,4 @@
--- A reading on a run, for a caller in Rattle: what it came to, with the display pair, and the run afterwards.
+-- A reading or a sighting on a run, for a caller in Rattle: what it came to, with the display pair, and the run afterwards.
 use Rattle.model.specs.declared.ReadingAnswer.{ReadingAnswer}
 use Rattle.model.specs.declared.Run.{Run}
 use Rattle.model.specs.Readings.{displayOf}

@@ -7,12 +7,13 @@ use model::Display;
 use model::Inverse;
 use model::Located;
 use model::Move;
+use model::Observation;
 use model::Outcome;
 use model::Placed;
 use model::Point;
-use model::Reading;
 use model::ReadingAnswer;
 use model::Run;
+use model::Sighting;
 pub use run::acknowledge;
 use sources::Form;
 use sources::no_amendment;
@@ -22,11 +23,12 @@ ghost use lib.ListN.{length};
 ghost use Rattle.model.specs.Writer.{writerOutcome, written};
 ghost use Rattle.model.specs.Crest.{fileCrest, checkOf};
 ghost use Rattle.model.specs.Answers.{paperIf, paperOfOutcome, paperAfter, askedPaper, readerOutcome, stationQuestion, placed, paperOfPlaced, pointQuestion, located, paperOfLocated, placeQuestion, inverse as inverseIn, paperOfInverse, moveQuestion, stakeOut, paperOfMove};
-ghost use Rattle.model.specs.Readings.{readingQuestion, answerTo, valueCount, paperOfReading, displayOf};
+ghost use Rattle.model.specs.Readings.{paperOfReading, displayOf};
+ghost use Rattle.model.specs.Sightings.{observedQuestion, observedTo, observedCount, sightedMoveQuestion, sightedMove};
 ghost use Rattle.model.specs.Run.{notedPaper};
 ghost use Rattle.entries.specs.Entries.{notedReading};
 
-// What a reading on a run came to, its display pair, and the run afterwards.
+// What a reading or a sighting on a run came to, its display pair, and the run afterwards.
 pub struct NotedReading {
     pub answer: ReadingAnswer,
     pub display: Display,
@@ -90,28 +92,36 @@ pub fn stake_out(own: Point, target: Point, c: i64, s: i64) -> Move
     stakes::stake_out(own, target, c, s)
 }
 
-// What a reading comes to on a crest, without a run.
-pub fn answer(file: &[u8], reading: Reading) -> ReadingAnswer
-    ensures { λ r. ⌜ r ≡ answerTo (fileCrest (now (file .entry))) reading ⌝ }
-    ensures paper { λ r. ⌜ paperOfReading (valueCount reading) r ≡ askedPaper (readingQuestion reading) (fileCrest (now (file .entry))) ⌝ }
+// How far to move a stake that was sighted.
+pub fn sighting_stake_out(sighting: Sighting, target: Point) -> Move
+    ensures { λ r. ⌜ r ≡ sightedMove sighting target ⌝ }
+    ensures paper { λ r. ⌜ paperOfMove r ≡ paperAfter [] (sightedMoveQuestion sighting target) ⌝ }
 {
-    readings::answer(file, no_amendment(file), Form::File, reading)
+    sightings::stake_out(sighting, target)
+}
+
+// What a reading or a sighting comes to on a crest, without a run.
+pub fn answer(file: &[u8], observation: Observation) -> ReadingAnswer
+    ensures { λ r. ⌜ r ≡ observedTo (fileCrest (now (file .entry))) observation ⌝ }
+    ensures paper { λ r. ⌜ paperOfReading (observedCount observation) r ≡ askedPaper (observedQuestion observation) (fileCrest (now (file .entry))) ⌝ }
+{
+    readings::answer(file, no_amendment(file), Form::File, observation)
 }
 
 // The display pair of it.
-pub fn display(file: &[u8], reading: Reading) -> Display
-    ensures { λ r. ⌜ r ≡ displayOf (answerTo (fileCrest (now (file .entry))) reading) ⌝ }
+pub fn display(file: &[u8], observation: Observation) -> Display
+    ensures { λ r. ⌜ r ≡ displayOf (observedTo (fileCrest (now (file .entry))) observation) ⌝ }
 {
-    let came = answer(file, reading);
+    let came = answer(file, observation);
     run::display::display(came)
 }
 
-// A reading on a run: counted, or refused with 16 where the run is full.
-pub fn note(file: &[u8], reading: Reading, run: Run) -> NotedReading
-    ensures { λ r. ⌜ r ≡ notedReading (answerTo (fileCrest (now (file .entry))) reading) run ⌝ }
-    ensures paper { λ r. ⌜ paperOfReading (valueCount reading) (r .answer) ≡ notedPaper (askedPaper (readingQuestion reading) (fileCrest (now (file .entry)))) run ⌝ }
+// A reading or a sighting on a run: counted, or refused with 16 where the run is full.
+pub fn note(file: &[u8], observation: Observation, run: Run) -> NotedReading
+    ensures { λ r. ⌜ r ≡ notedReading (observedTo (fileCrest (now (file .entry))) observation) run ⌝ }
+    ensures paper { λ r. ⌜ paperOfReading (observedCount observation) (r .answer) ≡ notedPaper (askedPaper (observedQuestion observation) (fileCrest (now (file .entry)))) run ⌝ }
 {
-    let noted = readings::note_file(file, reading, run);
+    let noted = readings::note_file(file, observation, run);
     let answer = noted.answer;
     let after = noted.run;
     NotedReading {

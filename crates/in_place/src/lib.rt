@@ -1,18 +1,19 @@
 // The run record, lent by the caller and changed where it lies: each by-value step, behind a reference.
-use model::Reading;
+use model::Observation;
 use model::ReadingAnswer;
 use model::Run;
 ghost use mathlib.Core.Path.{_≡_};
 ghost use Rattle.model.specs.Crest.{fileCrest};
 ghost use Rattle.model.specs.Answers.{askedPaper};
-ghost use Rattle.model.specs.Readings.{readingQuestion, answerTo, valueCount, paperOfReading};
+ghost use Rattle.model.specs.Readings.{paperOfReading};
+ghost use Rattle.model.specs.Sightings.{observedQuestion, observedTo, observedCount};
 ghost use Rattle.model.specs.Run.{noted, notedPaper, acknowledged};
 
-// A reading on a run: counted, or refused with 16 where the run is full.
-pub fn note(crest: &[u8], reading: Reading, run: &mut Run) -> ReadingAnswer
-    ensures { λ r. ⌜ (record { answer = r; run = now (run .exit) } ≡ noted (answerTo (fileCrest (now (crest .entry))) reading) (now (run .entry))) × (paperOfReading (valueCount reading) r ≡ notedPaper (askedPaper (readingQuestion reading) (fileCrest (now (crest .entry)))) (now (run .entry))) ⌝ }
+// A reading or a sighting on a run: counted, or refused with 16 where the run is full.
+pub fn note(crest: &[u8], observation: Observation, run: &mut Run) -> ReadingAnswer
+    ensures { λ r. ⌜ (record { answer = r; run = now (run .exit) } ≡ noted (observedTo (fileCrest (now (crest .entry))) observation) (now (run .entry))) × (paperOfReading (observedCount observation) r ≡ notedPaper (askedPaper (observedQuestion observation) (fileCrest (now (crest .entry)))) (now (run .entry))) ⌝ }
 {
-    let noted = readings::note_file(crest, reading, *run);
+    let noted = readings::note_file(crest, observation, *run);
     *run = noted.run;
     noted.answer
 }

@@ -9,7 +9,8 @@ use Rattle.model.specs.declared.Move.{Move}
 use Rattle.model.specs.Answers.{code, paperOfMove, stakeOut}
 use Rattle.model.specs.Calls.{moveBytes}
 use Rattle.codes.specs.Codes.{Movable}
-use Rattle.codes.proofs.Casts.{wide-fits, widened, as-came}
+use Rattle.integers.proofs.Held.{wide-fits, widened}
+use Rattle.codes.proofs.Casts.{as-came}
 use Rattle.crest.proofs.StakeCalls.{stake-18, stake-answered, stake-movable}
 use borrow.Author.Needs.{needs}
 use Rattle.crest.proofs.crest_stake_out.Statement.{statement}

@@ -1,5 +1,5 @@
 -- `in_place::note` meets its contract: a walk of its MIR, by hand. The borrow is opened, the run behind it is copied and passed to
--- `readings::note_file` with the crest and the reading, the run that comes back is stored, the borrow is closed at it, and the answer is returned.
+-- `readings::note_file` with the crest and the observation, the run that comes back is stored, the borrow is closed at it, and the answer is returned.
 -- Assumes nothing.
 use mathlib.Core.Path.{_≡_, refl, ap}
 use Prim.Native.Nat.{ℕ, zero}
@@ -43,17 +43,18 @@ use denote.Triple.Walked.{says, Stays, stay-ref, stay-none, stay-none-slice, wal
 use denote.Triple.Clauses.{ensured, lasts}
 use denote.Exit.{yes}
 use Rattle.model.specs.declared.Noted.{Noted}
-use Rattle.model.specs.declared.Reading.{Reading}
+use Rattle.model.specs.declared.Observation.{Observation}
 use Rattle.model.specs.declared.ReadingAnswer.{ReadingAnswer}
 use Rattle.model.specs.declared.Run.{Run}
 use Rattle.model.specs.Crest.{fileCrest}
 use Rattle.model.specs.Answers.{askedPaper}
-use Rattle.model.specs.Readings.{readingQuestion, answerTo, valueCount, paperOfReading}
+use Rattle.model.specs.Readings.{paperOfReading}
+use Rattle.model.specs.Sightings.{observedQuestion, observedTo, observedCount}
 use Rattle.model.specs.Run.{noted, notedPaper}
 use Rattle.model.proofs.Noted as N
 use Rattle.model.proofs.Noted.Laws as N′
-use Rattle.model.proofs.Reading as R
-use Rattle.model.proofs.Reading.Laws as R′
+use Rattle.model.proofs.Observation as R
+use Rattle.model.proofs.Observation.Laws as R′
 use Rattle.model.proofs.ReadingAnswer as S
 use Rattle.model.proofs.ReadingAnswer.Laws as S′
 use Rattle.model.proofs.Run as T
@@ -75,15 +76,15 @@ module _ {M : Type 1} (𝓤 : URA M) (H : Heap 𝓤) (A : Atoms 𝓤) (at-mem : 
   abbrev Step : Contract 𝓤
   Step = tripleOf 𝓤 H A step.signature (step.spec 𝓤 H A at-mem run)
 
-module _ {M : Type 1} (𝓤 : URA M) (H : Heap 𝓤) (A : Atoms 𝓤) (W : Given 𝓤 H A) (at-mem : Memory → SProp 𝓤) (run : Routine → Fun 𝓤) (κ κ′ : Lft) (bounds : AllOutlive 2 (f.signature .outlives) (κ, (κ′, tt))) (q q′ : Share) (s : RefT (List ℕ)) (g : Reading) (given : Is R.the-row g (EL.vals R.the-type R′.the-laws g)) (b o : ℕ) (γ : GName) (h : Run) where
-  -- the machine values of the crest and of the reading
+module _ {M : Type 1} (𝓤 : URA M) (H : Heap 𝓤) (A : Atoms 𝓤) (W : Given 𝓤 H A) (at-mem : Memory → SProp 𝓤) (run : Routine → Fun 𝓤) (κ κ′ : Lft) (bounds : AllOutlive 2 (f.signature .outlives) (κ, (κ′, tt))) (q q′ : Share) (s : RefT (List ℕ)) (g : Observation) (given : Is R.the-row g (EL.vals R.the-type R′.the-laws g)) (b o : ℕ) (γ : GName) (h : Run) where
+  -- the machine values of the crest and of the observation
   abbrev v : Val
   v = sliceVal (s .ptr) (length (s .now))
 
   abbrev asks : Val
   asks = EL.val R.the-type R′.the-laws g
 
-  abbrev x : RefT (List ℕ) × (Reading × (RefT Run × Unit {0}))
+  abbrev x : RefT (List ℕ) × (Observation × (RefT Run × Unit {0}))
   x = (s, (g, (record { ptr = (b, o); name = γ; now = h }, tt)))
 
   abbrev at : List Val × (List Val × (List Val × Unit {0}))
@@ -101,11 +102,11 @@ module _ {M : Type 1} (𝓤 : URA M) (H : Heap 𝓤) (A : Atoms 𝓤) (W : Given
 
   -- what the step ensures of what came back
   abbrev Says : Noted → Type 0
-  Says r = (r ≡ noted (answerTo (fileCrest (now s)) g) h) × (paperOfReading (valueCount g) (r .answer) ≡ notedPaper (askedPaper (readingQuestion g) (fileCrest (now s))) h)
+  Says r = (r ≡ noted (observedTo (fileCrest (now s)) g) h) × (paperOfReading (observedCount g) (r .answer) ≡ notedPaper (askedPaper (observedQuestion g) (fileCrest (now s))) h)
 
   -- what is promised of the answer and of the run's last value
   abbrev Ends : ReadingAnswer → Run → Type 0
-  Ends a z = (record { answer = a; run = z } ≡ noted (answerTo (fileCrest (now s)) g) h) × (paperOfReading (valueCount g) a ≡ notedPaper (askedPaper (readingQuestion g) (fileCrest (now s))) h)
+  Ends a z = (record { answer = a; run = z } ≡ noted (observedTo (fileCrest (now s)) g) h) × (paperOfReading (observedCount g) a ≡ notedPaper (askedPaper (observedQuestion g) (fileCrest (now s))) h)
 
   abbrev Post : Val → SProp 𝓤
   Post = walkOf 𝓤 H A f.ended stayed (f.clauses 𝓤 H A at-mem run) .post (((κ, (κ′, tt)), (q, (q′, tt)), bounds, x, at), tt)

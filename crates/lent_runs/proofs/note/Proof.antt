@@ -42,17 +42,18 @@ use denote.Triple.Walked.{says, Stays, stay-none, stay-none-slice, walkOf, AllGo
 use denote.Triple.Clauses.{ensured, lasts}
 use denote.Exit.{yes}
 use Rattle.model.specs.declared.Noted.{Noted}
-use Rattle.model.specs.declared.Reading.{Reading}
+use Rattle.model.specs.declared.Observation.{Observation}
 use Rattle.model.specs.declared.ReadingAnswer.{ReadingAnswer}
 use Rattle.model.specs.declared.Run.{Run}
 use Rattle.model.specs.Crest.{fileCrest}
 use Rattle.model.specs.Answers.{askedPaper}
-use Rattle.model.specs.Readings.{readingQuestion, answerTo, valueCount, paperOfReading}
+use Rattle.model.specs.Readings.{paperOfReading}
+use Rattle.model.specs.Sightings.{observedQuestion, observedTo, observedCount}
 use Rattle.model.specs.Run.{noted, notedPaper}
 use Rattle.model.proofs.Noted as N
 use Rattle.model.proofs.Noted.Laws as N′
-use Rattle.model.proofs.Reading as R
-use Rattle.model.proofs.Reading.Laws as R′
+use Rattle.model.proofs.Observation as R
+use Rattle.model.proofs.Observation.Laws as R′
 use Rattle.model.proofs.ReadingAnswer as S
 use Rattle.model.proofs.ReadingAnswer.Laws as S′
 use Rattle.model.proofs.Run as T
@@ -75,15 +76,15 @@ module _ {M : Type 1} (𝓤 : URA M) (H : Heap 𝓤) (A : Atoms 𝓤) (at-mem : 
   abbrev Step : Contract 𝓤
   Step = tripleOf 𝓤 H A step.signature (step.spec 𝓤 H A at-mem run)
 
-module _ {M : Type 1} (𝓤 : URA M) (H : Heap 𝓤) (A : Atoms 𝓤) (W : Given 𝓤 H A) (at-mem : Memory → SProp 𝓤) (run : Routine → Fun 𝓤) (κ : Lft) (q : Share) (s : RefT (List ℕ)) (g : Reading) (given-g : Is R.the-row g (EL.vals R.the-type R′.the-laws g)) (h : Run) (was : Is T.the-row h (mach h ∷ [])) where
-  -- the machine values of the crest, of the reading and of an answer
+module _ {M : Type 1} (𝓤 : URA M) (H : Heap 𝓤) (A : Atoms 𝓤) (W : Given 𝓤 H A) (at-mem : Memory → SProp 𝓤) (run : Routine → Fun 𝓤) (κ : Lft) (q : Share) (s : RefT (List ℕ)) (g : Observation) (given-g : Is R.the-row g (EL.vals R.the-type R′.the-laws g)) (h : Run) (was : Is T.the-row h (mach h ∷ [])) where
+  -- the machine values of the crest, of the observation and of an answer
   abbrev v : Val
   v = sliceVal (s .ptr) (length (s .now))
 
   abbrev asks : Val
   asks = EL.val R.the-type R′.the-laws g
 
-  abbrev x : RefT (List ℕ) × (Reading × (Run × Unit {0}))
+  abbrev x : RefT (List ℕ) × (Observation × (Run × Unit {0}))
   x = (s, (g, (h, tt)))
 
   abbrev at : List Val × (List Val × (List Val × Unit {0}))
@@ -95,7 +96,7 @@ module _ {M : Type 1} (𝓤 : URA M) (H : Heap 𝓤) (A : Atoms 𝓤) (W : Given
 
   -- what the step ensures of its answer and of the run's last value
   abbrev Says : ReadingAnswer → Run → Type 0
-  Says r z = (_≡_ {A = Noted} (record { answer = r; run = z }) (noted (answerTo (fileCrest (now s)) g) h)) × (paperOfReading (valueCount g) r ≡ notedPaper (askedPaper (readingQuestion g) (fileCrest (now s))) h)
+  Says r z = (_≡_ {A = Noted} (record { answer = r; run = z }) (noted (observedTo (fileCrest (now s)) g) h)) × (paperOfReading (observedCount g) r ≡ notedPaper (askedPaper (observedQuestion g) (fileCrest (now s))) h)
 
   abbrev Post : Val → SProp 𝓤
   Post = walkOf 𝓤 H A f.ended stayed (f.clauses 𝓤 H A at-mem run) .post (((κ, tt), (q, tt), tt, x, at), tt)
@@ -110,7 +111,7 @@ module _ {M : Type 1} (𝓤 : URA M) (H : Heap 𝓤) (A : Atoms 𝓤) (W : Given
   both-are : (r : ReadingAnswer) (w : Val) → Is S.the-row r (w ∷ []) → (z : Run) → Is T.the-row z (mach z ∷ []) → Is N.the-row (both r z) (back r z ∷ [])
   both-are r w told z is = LL.owes N.the-type N′.the-laws (both r z) (subst (Is S.the-row r) (EL.tells S.the-type S′.the-laws r _ told) told, (is, tt))
 
-  exits : (r : ReadingAnswer) (z : Run) → Is N.the-row (both r z) (back r z ∷ []) → both r z ≡ noted (answerTo (fileCrest (now s)) g) h → ent 𝓤 (⋆ 𝓤 H A (‵ (flft κ q) ∷ ‵ Own ∷ [])) (Post (back r z))
+  exits : (r : ReadingAnswer) (z : Run) → Is N.the-row (both r z) (back r z ∷ []) → both r z ≡ noted (observedTo (fileCrest (now s)) g) h → ent 𝓤 (⋆ 𝓤 H A (‵ (flft κ q) ∷ ‵ Own ∷ [])) (Post (back r z))
   exits r z is e =
       qed W (‵ (flft κ q) ∷ ‵ Own ∷ []) ∵
       suffices ! _ (ends-at 𝓤 H A f.ended stayed (f.clauses 𝓤 H A at-mem run) W (((κ, tt), (q, tt), tt, x, at), tt) (back r z) (both r z) (tt, (tt, (tt, tt))) (tt, (tt, (tt, tt)))) $ says ! e $

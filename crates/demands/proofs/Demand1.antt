@@ -13,7 +13,7 @@ use lib.Dec.{eqb, ltb}
 use borrow.Author.Tests.{eqb-true, eq-eqb}
 use lib.ListN.{length, take, drop, replicate, length-append}
 use lib.Seq.{take-append-seam, drop-append-seam}
-use lib.IntN.{ℤ, pos}
+use lib.IntN.{ℤ, pos, negℤ}
 use Rattle.model.specs.declared.Point.{Point}
 use Rattle.model.specs.declared.Refusal.{Refusal}
 use Rattle.model.specs.declared.Outcome.{Outcome}
@@ -24,6 +24,9 @@ use Rattle.model.specs.declared.Inverse.the-variants.{Refused as InverseRefused
 use Rattle.model.specs.declared.Move.{Move}
 use Rattle.model.specs.declared.Move.the-variants.{By, Refused as MoveRefused}
 use Rattle.model.specs.declared.Reading.{Reading}
+use Rattle.model.specs.declared.Sighting.{Sighting}
+use Rattle.model.specs.declared.Observation.{Observation}
+use Rattle.model.specs.declared.Observation.the-variants.{Read, Sighted}
 use Rattle.model.specs.declared.ReadingAnswer.{ReadingAnswer}
 use Rattle.model.specs.declared.Run.{Run}
 use Rattle.model.specs.declared.ReadingAnswer.the-variants.{PlanePoint as AnswerPoint, LinePlace as AnswerPlace, Refused as AnswerRefused}
@@ -34,13 +37,14 @@ use Rattle.model.specs.Records.{byteAt, recordBytes, countOf}
 use Rattle.model.specs.Writer.{writerRules, writerOutcome, roomAfter, written}
 use Rattle.model.specs.Answers.{PaperAnswer, paperIf, code, paperOfOutcome, Question, answerAfter, paperAfter, readerOutcome, spanIf, readerSpan, readerPart, placed, paperOfPlaced, located, paperOfLocated, inverse, paperOfInverse, forwardOf, leftOf, moveRules, moveQuestion, stakeOut, paperOfMove}
 use Rattle.model.specs.Readings.{refusesReading, answerTo, valueCount, paperOfReading, zeroFloat, displayOf}
+use Rattle.model.specs.Sightings.{turnedOf, sightedOf, sightedTo, observedQuestion, observedTo, observedCount, sightedMoveQuestion, sightedMove}
 use Rattle.model.specs.Run.{shownOf, isFull, runAt, runBytes, counted, acknowledged}
-use Rattle.model.specs.Calls.{readingCall, acknowledgeCall, checkCall, writeCall, moveSize, moveBytes, stakeOutCall}
-use Rattle.model.specs.Histories.{Call, read, acknowledge, Came, reading, AllCame, none, asked, acknowledged-next, afterCall, afterCalls, bytesAfterCall, bytesAfterCalls, freshBytes, demanded}
+use Rattle.model.specs.Calls.{readingCall, acknowledgeCall, checkCall, writeCall, moveSize, moveBytes, moveCall, stakeOutCall, sightingStakeOutCall}
+use Rattle.model.specs.Histories.{Call, read, acknowledge, Came, reading, sighting, AllCame, none, asked, acknowledged-next, afterCall, afterCalls, bytesAfterCall, bytesAfterCalls, freshBytes, demanded}
 use Rattle.model.proofs.Verdict.{reason-numbered, AllHold, more, Cause, order-outcome, refused→first, refused-before, done→all, all→done}
-use Rattle.model.proofs.Answers.{Tells, told-refused, told-paper, told-exactly, told-answered, station-tells, point-tells, place-tells, move-tells, reading-tells}
+use Rattle.model.proofs.Answers.{Tells, told-refused, told-paper, told-exactly, told-answered, station-tells, point-tells, place-tells, move-tells, reading-tells, sighting-tells, sighted-move-tells}
 use Rattle.run.specs.Stored.{Storable}
-use Rattle.run.proofs.Refused.{refuses-numbered, AsRead, answer-as-read, Zeros, refusal-shows-zeros}
+use Rattle.run.proofs.Refused.{refuses-numbered, AsRead, observed-as-read, Zeros, refusal-shows-zeros}
 use Rattle.run.proofs.Noting.{noted-counted}
 use Rattle.run.proofs.Calls.{reading-18, reading-16, reading-counted, not-counted-unchanged, acknowledge-18, acknowledge-0}
 use Rattle.model.proofs.Reasons.{first-holds, rest-hold}
@@ -73,7 +77,13 @@ refused-numbered rs why e =
 
 -- a reading on a crest of any source is answered, or refused with one of the crest's own numbers or of 10 to 15
 pub any-reading : (c : Crest) → SoundCrest c → (r : Reading) (why : Refusal) → answerTo c r ≡ AnswerRefused why → refusesReading (why .number) ≡ true
-any-reading c sound r = answer-as-read c sound r
+unfolding observedQuestion
+any-reading c sound r = observed-as-read c sound (Read r)
+
+-- and so is a sighting
+pub any-sighting : (c : Crest) → SoundCrest c → (k : Sighting) (why : Refusal) → sightedTo c k ≡ AnswerRefused why → refusesReading (why .number) ≡ true
+unfolding observedQuestion
+any-sighting c sound k = observed-as-read c sound (Sighted k)
 
 -- ---- the other calls by value
 
@@ -89,7 +99,7 @@ pub any-record : (file : List ℕ) (r : ℕ) (why : Refusal) → readerOutcome f
 unfolding readerOutcome
 any-record file r = refused-numbered (crestRules file ++ (rule₀ askedOutOfRange (ltb r (countOf (recordBytes file))) ∷ []))
 
--- a position, a plane point, a line place and a stake-out by value
+-- a position, a plane point, a line place, a stake-out and a sighting's move by value
 any-question : {A : Type 0} {refused : Refusal → A} {paperOf : A → PaperAnswer} {q : Question A} → Tells refused paperOf q → (before : List Rule) (why : Refusal) → answerAfter before q ≡ refused why → Numbered why
 any-question {q = q} tells before why e = refused-numbered (before ++ q .order) why (told-exactly tells before why .0 e)
 
@@ -104,6 +114,9 @@ any-place c s w = any-question (place-tells s w (c .elements)) (c .rules)
 
 pub any-stake-out : (own target : Point) (c s : ℤ) (why : Refusal) → stakeOut own target c s ≡ MoveRefused why → Numbered why
 any-stake-out own target c s = any-question (move-tells own target c s) []
+
+pub any-sighted-move : (k : Sighting) (target : Point) (why : Refusal) → sightedMove k target ≡ MoveRefused why → Numbered why
+any-sighted-move k target = any-question (sighted-move-tells k target) []
 
 -- ---- "Every entry checks the alignment it is given."
 
@@ -121,27 +134,43 @@ module _ (c : Crest) (why : Refusal) (refused : checkOf c ≡ Refused why) where
   pub refused-crest-reading : (r : Reading) → answerTo c r ≡ AnswerRefused why
   refused-crest-reading r = told-refused (reading-tells r (c .elements)) (c .rules) refused
 
+  pub refused-crest-sighting : (k : Sighting) → sightedTo c k ≡ AnswerRefused why
+  refused-crest-sighting k = told-refused (sighting-tells k (c .elements)) (c .rules) refused
+
 pub refused-file-record : (file : List ℕ) (why : Refusal) → checkOf (fileCrest file) ≡ Refused why → (r : ℕ) → readerOutcome file r ≡ Refused why
 unfolding readerOutcome
 refused-file-record file why e r = refused-before (crestRules file) _ e
 
--- ---- what a reading came to, whatever question and crest it was
+-- ---- what a reading or a sighting came to, whatever question and crest it was
 
 -- of a file
 pub file-came : (file : List ℕ) (r : Reading) → Came (answerTo (fileCrest file) r)
 file-came file r = reading (fileCrest file) (file-sound file) r
 
+pub file-sighted : (file : List ℕ) (k : Sighting) → Came (sightedTo (fileCrest file) k)
+file-sighted file k = sighting (fileCrest file) (file-sound file) k
+
+-- every observation is a reading or a sighting
+pub observation-came : (c : Crest) → SoundCrest c → (o : Observation) → Came (observedTo c o)
+unfolding observedQuestion
+observation-came c sound (Read r) = reading c sound r
+observation-came c sound (Sighted k) = sighting c sound k
+
 -- its refusal has a number of the table
 pub came-numbered : {a : ReadingAnswer} → Came a → (why : Refusal) → a ≡ AnswerRefused why → Numbered why
 came-numbered (reading c sound r) why e = refuses-numbered (why .number) (any-reading c sound r why e)
+came-numbered (sighting c sound k) why e = refuses-numbered (why .number) (any-sighting c sound k why e)
 
 -- that is no run's own
 pub came-as-read : {a : ReadingAnswer} → Came a → AsRead a
-came-as-read (reading c sound r) = answer-as-read c sound r
+came-as-read (reading c sound r) = any-reading c sound r
+came-as-read (sighting c sound k) = any-sighting c sound k
 
 -- and it fits the run record
 pub came-storable : {a : ReadingAnswer} → Came a → Storable (shownOf a)
-came-storable (reading c sound r) = answer-storable c sound r
+unfolding observedQuestion
+came-storable (reading c sound r) = answer-storable c sound (Read r)
+came-storable (sighting c sound k) = answer-storable c sound (Sighted k)
 
 -- ---- "any order of calls": what each call returns and leaves, on any bytes
 
@@ -193,12 +222,24 @@ question-code : {A : Type 0} {refused : Refusal → A} {paperOf : A → PaperAns
 unfolding paperAfter
 question-code {q = q} tells before = ap code (told-paper tells before) ∙ paper-code (verdict (before ++ q .order)) (q .values)
 
+-- of a question whose answer is a move
+abbrev pub callRules : Question Move → List ℕ → List Rule
+callRules q room = rule₀ wrongRoom (eqb (length room) moveSize) ∷ q .order
+
+pub move-code : {q : Question Move} → Tells MoveRefused paperOfMove q → (room : List ℕ) → moveCall q room .0 ≡ code (paperOfOutcome (verdict (callRules q room)))
+unfolding moveCall
+move-code tells room = question-code tells (rule₀ wrongRoom (eqb (length room) moveSize) ∷ [])
+
 abbrev pub stakeOutRules : Point → Point → ℤ → ℤ → List ℕ → List Rule
 stakeOutRules own target c s room = rule₀ wrongRoom (eqb (length room) moveSize) ∷ moveRules own target c s
 
 pub stake-out-code : (own target : Point) (c s : ℤ) (room : List ℕ) → stakeOutCall own target c s room .0 ≡ code (paperOfOutcome (verdict (stakeOutRules own target c s room)))
 unfolding stakeOutCall moveQuestion
-stake-out-code own target c s room = question-code (move-tells own target c s) (rule₀ wrongRoom (eqb (length room) moveSize) ∷ [])
+stake-out-code own target c s room = move-code (move-tells own target c s) room
+
+pub sighting-stake-out-code : (k : Sighting) (target : Point) (room : List ℕ) → sightingStakeOutCall k target room .0 ≡ code (paperOfOutcome (verdict (callRules (sightedMoveQuestion k target) room)))
+unfolding sightingStakeOutCall
+sighting-stake-out-code k target room = move-code (sighted-move-tells k target) room
 
 pub any-check-call : (c : Crest) → Returned (checkCall c)
 unfolding checkCall
@@ -210,6 +251,9 @@ any-write-call records room = returned (writerRules records (length room))
 
 pub any-stake-out-call : (own target : Point) (c s : ℤ) (room : List ℕ) → Returned (stakeOutCall own target c s room .0)
 any-stake-out-call own target c s room = subst Returned (sym (stake-out-code own target c s room)) (returned (stakeOutRules own target c s room))
+
+pub any-sighting-stake-out-call : (k : Sighting) (target : Point) (room : List ℕ) → Returned (sightingStakeOutCall k target room .0)
+any-sighting-stake-out-call k target room = subst Returned (sym (sighting-stake-out-code k target room)) (returned (callRules (sightedMoveQuestion k target) room))
 
 -- the number of a refusal without a place
 number-returned : (why : Reason) → Returned (number why)
@@ -269,6 +313,16 @@ stake-out-returns-0 own target c s room =
       (λ h. stake-out-code own target c s room ∙ returns-0 rules .1 (all→done (more (eq-eqb (length room) 8 (h .0)) (done→all (moveRules own target c s) (answered .0 (h .1)))))),
     )
 
+pub sighting-stake-out-returns-0 : (k : Sighting) (target : Point) (room : List ℕ) →
+    (sightingStakeOutCall k target room .0 ≡ 0) ↔ ((length room ≡ 8) × (sightedMove k target ≡ By (forwardOf (sightedOf k) target (negℤ (turnedOf k .x)) (negℤ (turnedOf k .y))) (leftOf (sightedOf k) target (negℤ (turnedOf k .x)) (negℤ (turnedOf k .y)))))
+unfolding sightedMoveQuestion
+sighting-stake-out-returns-0 k target room =
+    let rules = callRules (sightedMoveQuestion k target) room in
+    let answered = told-answered (sighted-move-tells k target) [] in (
+      (λ e. let h = done→all rules (returns-0 rules .0 (sym (sighting-stake-out-code k target room) ∙ e)) in (eqb-true (length room) 8 (first-holds h), answered .1 (all→done (rest-hold h)))),
+      (λ h. sighting-stake-out-code k target room ∙ returns-0 rules .1 (all→done (more (eq-eqb (length room) 8 (h .0)) (done→all (sightedMoveQuestion k target .order) (answered .0 (h .1)))))),
+    )
+
 -- a reading that is refused does not return 0
 refused-reading-returns : {a : ReadingAnswer} → Came a → (why : Refusal) → a ≡ AnswerRefused why → code (paperOfReading 0 a) ≡ 0 → ⊥
 unfolding code paperOfReading
@@ -313,6 +367,11 @@ pub refused-reading-values : (r : Reading) (why : Refusal) → paperOfReading (v
 unfolding paperOfReading
 refused-reading-values r why = refl
 
+-- of a sighting: four, as of its point
+pub refused-sighting-values : (k : Sighting) (why : Refusal) → paperOfReading (observedCount (Sighted k)) (AnswerRefused why) .values ≡ replicate 4 (pos 0)
+unfolding paperOfReading observedCount
+refused-sighting-values k why = refl
+
 -- "It goes with a plane point's answer; else both are 0.0."
 pub refused-display : (why : Refusal) → displayOf (AnswerRefused why) ≡ record { station = zeroFloat; offset = zeroFloat }
 unfolding displayOf
@@ -336,13 +395,21 @@ refused-write-unchanged records room = go (writerOutcome records (length room))
     go Done h = absurd (h refl)
     go (Refused why) h = refl
 
-pub refused-stake-out-unchanged : (own target : Point) (c s : ℤ) (room : List ℕ) → (stakeOutCall own target c s room .0 ≡ 0 → ⊥) → stakeOutCall own target c s room .1 ≡ room
-unfolding stakeOutCall moveBytes code paperOfMove
-refused-stake-out-unchanged own target c s room = go (answerAfter (rule₀ wrongRoom (eqb (length room) moveSize) ∷ []) (moveQuestion own target c s))
+refused-move-unchanged : (q : Question Move) (room : List ℕ) → (moveCall q room .0 ≡ 0 → ⊥) → moveCall q room .1 ≡ room
+unfolding moveCall moveBytes code paperOfMove
+refused-move-unchanged q room = go (answerAfter (rule₀ wrongRoom (eqb (length room) moveSize) ∷ []) q)
   where
     go : (m : Move) → (code (paperOfMove m) ≡ 0 → ⊥) → moveBytes m room ≡ room
     go (By forward left) h = absurd (h refl)
     go (MoveRefused why) h = refl
+
+pub refused-stake-out-unchanged : (own target : Point) (c s : ℤ) (room : List ℕ) → (stakeOutCall own target c s room .0 ≡ 0 → ⊥) → stakeOutCall own target c s room .1 ≡ room
+unfolding stakeOutCall
+refused-stake-out-unchanged own target c s room = refused-move-unchanged (moveQuestion own target c s) room
+
+pub refused-sighting-stake-out-unchanged : (k : Sighting) (target : Point) (room : List ℕ) → (sightingStakeOutCall k target room .0 ≡ 0 → ⊥) → sightingStakeOutCall k target room .1 ≡ room
+unfolding sightingStakeOutCall
+refused-sighting-stake-out-unchanged k target room = refused-move-unchanged (sightedMoveQuestion k target) room
 
 -- of a run, what is not counted changes nothing
 pub not-counted : {a : ReadingAnswer} → Came a → (run : List ℕ) → (readingCall a run .0 ≡ 16) ⊎ (readingCall a run .0 ≡ 18) → readingCall a run .1 ≡ run
@@ -359,19 +426,22 @@ every-fits (acknowledged-next rest) = (tt, every-fits rest)
 pub fresh-bytes-show-demanded : {cs : List Call} → AllCame cs → runAt (bytesAfterCalls cs freshBytes) ≡ demanded cs
 fresh-bytes-show-demanded {cs} came = bytes-show-demanded cs (every-fits came)
 
--- so of readings on crest files, whatever their bytes, and acknowledgements, in any order
+-- so of readings and sightings on crest files, whatever their bytes, and acknowledgements, in any order
 pub data FileCall : Type 0 where
   read-file : List ℕ → Reading → FileCall
+  sight-file : List ℕ → Sighting → FileCall
   acknowledge-run : FileCall
 
 abbrev pub callsOf : List FileCall → List Call
 callsOf [] = []
 callsOf (read-file file r ∷ cs) = read (answerTo (fileCrest file) r) ∷ callsOf cs
+callsOf (sight-file file k ∷ cs) = read (sightedTo (fileCrest file) k) ∷ callsOf cs
 callsOf (acknowledge-run ∷ cs) = acknowledge ∷ callsOf cs
 
 pub files-came : (cs : List FileCall) → AllCame (callsOf cs)
 files-came [] = none
 files-came (read-file file r ∷ cs) = asked (file-came file r) (files-came cs)
+files-came (sight-file file k ∷ cs) = asked (file-sighted file k) (files-came cs)
 files-came (acknowledge-run ∷ cs) = acknowledged-next (files-came cs)
 
 pub file-bytes-show-demanded : (cs : List FileCall) → runAt (bytesAfterCalls (callsOf cs) freshBytes) ≡ demanded (callsOf cs)

@@ -21,6 +21,8 @@ use Rattle.model.specs.declared.Located.the-variants.{At as LocatedAt, Refused 
 use Rattle.model.specs.declared.Placed.the-variants.{Refused as PlacedRefused}
 use Rattle.model.specs.declared.Inverse.the-variants.{Refused as InverseRefused}
 use Rattle.model.specs.declared.Move.the-variants.{Refused as MoveRefused}
+use Rattle.model.specs.declared.Sighting.{Sighting}
+use Rattle.model.specs.declared.ReadingAnswer.the-variants.{PlanePoint as AnswerPoint, Refused as AnswerRefused}
 use Rattle.model.specs.Series.{positionOn}
 use Rattle.model.specs.Refusals.{Rule, Gives, number, refusal, rule₀, tooFar, beforeStart, afterEnd, recordCount, wrongRoom}
 use Rattle.model.specs.Acceptance.{inFrame}
@@ -30,6 +32,7 @@ use Rattle.model.specs.Stations.{total, distanceSq, D}
 use Rattle.model.specs.Judged.{judged, residualAt}
 use Rattle.model.specs.Walk.{firstVisits, bestOf, secondVisits, visits, isIn}
 use Rattle.model.specs.Answers.{PaperAnswer, Question, answerAfter, readerOutcome, stationRules, stationQuestion, placed, locatedOn, located, lineRules, placeQuestion, inverse, moveRules, moveQuestion, stakeOut}
+use Rattle.model.specs.Sightings.{sightedOf, sightedTo, sightedMove}
 use Rattle.model.specs.Writer.{countFits, blocksNeeded, writerRules, writerOutcome}
 use Rattle.model.specs.Records.{blockSize}
 use Rattle.model.proofs.Answers.{Tells, told-refused, told-exactly, station-tells, point-tells, place-tells, move-tells}
@@ -39,8 +42,11 @@ use Rattle.sources.proofs.Sound.{file-sound}
 use Rattle.model.proofs.Reasons.{Lacks, empty, other, lacks-++, lacks-other, lacks→not-given}
 use Rattle.walk_laws.proofs.Spaced as spaced
 use Rattle.walk_laws.proofs.Walked as walked
-use Rattle.walk_laws.proofs.Outcomes.{Answered}
+use Rattle.walk_laws.proofs.Outcomes.{Answered, TooFar, BeforeStart, AfterEnd}
 use Rattle.walk_laws.proofs.Outcomes as outcomes
+use Rattle.demands.proofs.SightOrders.{Sights}
+use Rattle.demands.proofs.SightingRefusals.{sighted-move-only}
+use Rattle.demands.proofs.SightingRefusals as sightings
 
 -- ---- an accepted alignment, by its elements, and any point
 
@@ -125,13 +131,34 @@ module _ (c : Crest) (sound : SoundCrest c) (p : Point) where
       (located c p ≡ LocatedAt station offset residual count) ↔ ((checkOf c ≡ Done) × Answered (c .elements) p station offset residual count)
   crest-answered-else = outcomes.crest-answered c (sound .own) p
 
+-- ---- a sighting on a crest of any source: its point's station is asked for
+
+module _ (c : Crest) (sound : SoundCrest c) (k : Sighting) where
+  pub sighting-answer-of-walk : (station : ℕ) (offset residual : ℤ) (count : ℕ) → sightedTo c k ≡ AnswerPoint station offset residual count →
+      (station ≡ judged (c .elements) (sightedOf k)) × (count ≡ length (firstVisits (total (c .elements))) + length (secondVisits (c .elements) (sightedOf k)))
+  sighting-answer-of-walk station offset residual count e = let a = sightings.sighting-answered c (sound .own) k station offset residual count .0 e .2 in (a .station, a .count)
+
+  -- "no refusal that comes earlier in the order of document 01 or of a later request applies": the crest and the sighting refuse nothing
+  pub sighting-refused-12 : (sightedTo c k ≡ AnswerRefused (refusal tooFar 0)) ↔ ((checkOf c ≡ Done) × Sights k × TooFar (c .elements) (sightedOf k))
+  sighting-refused-12 = sightings.sighting-refused-12 c (sound .own) k
+
+  pub sighting-refused-13 : (sightedTo c k ≡ AnswerRefused (refusal beforeStart 0)) ↔ ((checkOf c ≡ Done) × Sights k × BeforeStart (c .elements) (sightedOf k))
+  sighting-refused-13 = sightings.sighting-refused-13 c (sound .own) k
+
+  pub sighting-refused-14 : (sightedTo c k ≡ AnswerRefused (refusal afterEnd 0)) ↔ ((checkOf c ≡ Done) × Sights k × AfterEnd (c .elements) (sightedOf k))
+  sighting-refused-14 = sightings.sighting-refused-14 c (sound .own) k
+
+  pub sighting-answered-else : (station : ℕ) (offset residual : ℤ) (count : ℕ) →
+      (sightedTo c k ≡ AnswerPoint station offset residual count) ↔ ((checkOf c ≡ Done) × Sights k × Answered (c .elements) (sightedOf k) station offset residual count)
+  sighting-answered-else = sightings.sighting-answered c (sound .own) k
+
 -- ---- 5. what 2 and 3 rest on
 
 -- Positions j mm apart on an element are at most 150 j + 30 grains apart. This fact of the series enters once, in `Spaced`.
 pub positions-close : (e : Element) → Accepted e → (s j : ℕ) → s + j ≤ e .length → distanceSq (positionOn e s) (positionOn e (s + j)) ≤ (150 * j + 30) * (150 * j + 30)
 positions-close = spaced.positions-close
 
--- "when the point's station is asked for": no other question gives 12, 13 or 14, nor do the reader and the writer; of a reading, `place-not-judged` says it
+-- "when the point's station is asked for": no other question gives 12, 13 or 14, nor do the reader, the writer and a sighting's move; of a reading, `place-not-judged` says it
 module _ (why : Refusal) (low : 12 ≤ why .number) (high : why .number ≤ 14) where
   own-lacks : {rs : List Rule} → Gives isOwn rs → Lacks (why .number) rs
   own-lacks own = lacks-other own (own-apart (why .number) (omega arith) (omega arith))
@@ -150,6 +177,9 @@ module _ (why : Refusal) (low : 12 ≤ why .number) (high : why .number ≤ 14) 
   pub stake-out-not-judged : (own target : Point) (c s : ℤ) → stakeOut own target c s ≢ MoveRefused why
   unfolding moveQuestion moveRules number
   stake-out-not-judged own target c s = never (move-tells own target c s) [] empty (other (λ e. omega arith) (other (λ e. omega arith) (other (λ e. omega arith) empty)))
+
+  pub sighted-move-not-judged : (k : Sighting) (target : Point) → sightedMove k target ≢ MoveRefused why
+  sighted-move-not-judged k target = sighted-move-only k target why (λ e. omega arith) (λ e. omega arith) (λ e. omega arith)
 
   pub check-not-judged : (c : Crest) → SoundCrest c → checkOf c ≢ Refused why
   check-not-judged c sound = lacks→not-given (own-lacks (sound .own))

@@ -16,5 +16,8 @@ pub mod Demand2
 pub mod Demand3
 -- When each number of the table is given.
 pub mod RefusalTable
+pub mod AfterNumbers
+pub mod SightOrders
 pub mod ReadingRefusals
+pub mod SightingRefusals
 pub mod NoPlace

@@ -15,6 +15,7 @@ use Rattle.model.specs.declared.Located.the-variants.{Refused as LocatedRefused
 use Rattle.model.specs.declared.Inverse.the-variants.{Refused as InverseRefused}
 use Rattle.model.specs.declared.Move.the-variants.{Refused as MoveRefused}
 use Rattle.model.specs.declared.Reading.{Reading}
+use Rattle.model.specs.declared.Sighting.{Sighting}
 use Rattle.model.specs.declared.ReadingAnswer.the-variants.{Refused as AnswerRefused}
 use Rattle.model.specs.Refusals.{Reason, Rule, number, rule₀, Gives, orRefused, refusal, verdict, checksum, blockField}
 use Rattle.model.specs.Records.{recordBytes, blockCount}
@@ -23,8 +24,9 @@ use Rattle.model.specs.Crest.{Crest, checkOf, isOwn}
 use Rattle.model.specs.Writer.{writerRules, writerOutcome}
 use Rattle.model.specs.Answers.{PaperAnswer, Question, answerAfter, readerOutcome, placed, located, inverse, stakeOut}
 use Rattle.model.specs.Readings.{answerTo}
+use Rattle.model.specs.Sightings.{sightedTo, sightedMove}
 use Rattle.model.proofs.RuleNumbers.{records-own}
-use Rattle.model.proofs.Answers.{Bare, none as bare-none, next as bare-next, Tells, told-exactly, station-tells, point-tells, place-tells, move-tells, reading-tells}
+use Rattle.model.proofs.Answers.{Bare, none as bare-none, next as bare-next, Tells, told-exactly, station-tells, point-tells, place-tells, move-tells, reading-tells, sighting-tells, sighted-move-tells}
 use Rattle.model.proofs.Reasons.{Lacks, empty, other, lacks-other}
 use Rattle.demands.proofs.Places.{lacks-rule, lacks-forEach}
 use Rattle.demands.proofs.RecordRefusals.{records-lack}
@@ -102,6 +104,9 @@ module _ (c : Crest) (w : Refusal) (k : At0 (w .number) (c .rules)) where
   pub reading-else-0 : (r : Reading) → answerTo c r ≡ AnswerRefused w → w .place ≡ 0
   reading-else-0 r e = question-at-0 (reading-tells r (c .elements)) (c .rules) k e
 
+  pub sighting-else-0 : (s : Sighting) → sightedTo c s ≡ AnswerRefused w → w .place ≡ 0
+  sighting-else-0 s e = question-at-0 (sighting-tells s (c .elements)) (c .rules) k e
+
 -- the reader of a file likewise
 pub record-else-0 : (file : List ℕ) (w : Refusal) → At0 (w .number) (crestRules file) → (r : ℕ) → readerOutcome file r ≡ Refused w → w .place ≡ 0
 unfolding readerOutcome
@@ -117,3 +122,7 @@ write-else-0 records room w h e =
 -- a stake-out's 11 and 7: it has no record
 pub stake-out-0 : (own target : Point) (c s : ℤ) (w : Refusal) → stakeOut own target c s ≡ MoveRefused w → w .place ≡ 0
 stake-out-0 own target c s w e = question-at-0 (move-tells own target c s) [] none e
+
+-- and those of a sighting's move
+pub sighted-move-0 : (k : Sighting) (target : Point) (w : Refusal) → sightedMove k target ≡ MoveRefused w → w .place ≡ 0
+sighted-move-0 k target w e = question-at-0 (sighted-move-tells k target) [] none e

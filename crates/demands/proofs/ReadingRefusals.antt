@@ -2,7 +2,7 @@
 -- whole numbers is answered and refused as its point or its place is, since the rule of its numbers stands between the crest's own rules and those of the question.
 use Prim.Native.Nat.{ℕ, _+_, _*_, _≤_, _<_}
 use mathlib.Core.Bool.{true, false, _&&_, and-eq-true-iff}
-use mathlib.Core.List.{List, _++_, append-assoc}
+use mathlib.Core.List.{List}
 use mathlib.Core.Logic.{_≢_, _⊎_, ⊎-map, _↔_, Iff·rfl, Iff·trans, Iff·and}
 use mathlib.Core.Path.{_≡_, refl, sym, _∙_, ap, ap₂}
 use native.Mathlib.Nat.{add-zero}
@@ -14,8 +14,7 @@ use Rattle.model.specs.declared.Element.{Element}
 use Rattle.model.specs.declared.Point.{Point}
 use Rattle.model.specs.declared.Refusal.{Refusal}
 use Rattle.model.specs.declared.Outcome.the-variants.{Done, Refused}
-use Rattle.model.specs.declared.Located.{Located}
-use Rattle.model.specs.declared.Located.the-variants.{At as LocatedAt, Refused as LocatedRefused}
+use Rattle.model.specs.declared.Located.the-variants.{Refused as LocatedRefused}
 use Rattle.model.specs.declared.Inverse.the-variants.{Refused as InverseRefused}
 use Rattle.model.specs.declared.Reading.the-variants.{PlanePoint, LinePlace}
 use Rattle.model.specs.declared.ReadingAnswer.{ReadingAnswer}
@@ -24,22 +23,22 @@ use Rattle.model.specs.Refusals.{Reason, number, refusal, notWhole, outsideFram
 use Rattle.model.specs.Acceptance.{inFrame}
 use Rattle.model.specs.Crest.{Crest, checkOf, isOwn, SoundCrest}
 use Rattle.model.specs.Stations.{isStation}
-use Rattle.model.specs.Answers.{PaperAnswer, code, Question, answerIf, answerAfter, pointRules, pointQuestion, located, inverseAt, lineRules, placeQuestion, inverse}
-use Rattle.model.specs.Readings.{Whole, whole, none, wholeOf, isWhole, valueOf, numberRules, fromLocated, fromInverse, numberedQuestion, readingQuestion, answerTo, paperOfReading}
+use Rattle.model.specs.Answers.{PaperAnswer, code, Question, answerAfter, pointRules, pointQuestion, located, inverseAt, lineRules, placeQuestion, inverse}
+use Rattle.model.specs.Readings.{Whole, whole, none, wholeOf, isWhole, valueOf, numberRules, fromLocated, fromInverse, putAfter, readingQuestion, answerTo, paperOfReading}
 use Rattle.model.specs.Run.{isFull, runAt}
 use Rattle.model.specs.Calls.{readingCall}
 use Rattle.model.specs.Histories.{Came, reading}
 use Rattle.model.proofs.Verdict.{done→all, all→done, reason-numbered}
 use Rattle.model.proofs.RuleNumbers.{own-apart}
-use Rattle.model.proofs.Answers.{rules-hold, Tells, told-exactly, told-answer, point-tells, place-tells, reading-tells, numbered, plane-asked}
-use Rattle.model.proofs.ForEach.{append-all, all-append, holds-one, one-holds}
-use Rattle.walk_laws.proofs.Outcomes.{TooFar, BeforeStart, AfterEnd, Answered, crest-answered, crest-outside-frame, crest-too-far, crest-before-start, crest-after-end}
-use Rattle.model.proofs.Reasons.{Lacks, empty, other, lacks-++, lacks-other, lacks→not-given}
+use Rattle.model.proofs.Answers.{Tells, point-tells, place-tells, reading-tells}
+use Rattle.model.proofs.ForEach.{holds-one, one-holds}
+use Rattle.walk_laws.proofs.Outcomes.{TooFar, BeforeStart, AfterEnd, Answered, crest-outside-frame, crest-too-far, crest-before-start, crest-after-end}
+use Rattle.model.proofs.Reasons.{Lacks, empty, other}
 use Rattle.run.proofs.Calls.{reading-counted}
 use Rattle.integers.proofs.Tests.{and-fails}
 use Rattle.integers.proofs.Order.{clash}
-use Rattle.model.proofs.AfterCrest.{held-between, next-after-crest}
-use Rattle.demands.proofs.Places.{first-part, second-part}
+use Rattle.model.proofs.AfterCrest.{next-after-crest}
+use Rattle.demands.proofs.AfterNumbers.{came-as, came-refused, refused-as, given-as, refused-own, never-refused, point-answered}
 use Rattle.demands.proofs.Demand1.{Numbered, came-numbered, ReadingEnds, no-run, run-full, counts, any-reading-call}
 use Rattle.demands.proofs.RefusalTable.{not-own, place-refused-11, place-refused-15}
 
@@ -69,78 +68,16 @@ abbrev pub OutsideAsked : List Element → ℤ → ℤ → Type 0
 OutsideAsked es s w =
     ((isStation es s ≡ true) × (natAbs w ≤ 20000000)) × (inFrame (inverseAt es (natAbs s) w .x) (inverseAt es (natAbs s) w .y) ≡ false)
 
--- a plane reading's answer is that of its point
-from-answered : (l : Located) {station : ℕ} {offset residual : ℤ} {count : ℕ} → (fromLocated l ≡ AnswerPoint station offset residual count) ↔ (l ≡ LocatedAt station offset residual count)
-unfolding fromLocated
-from-answered (LocatedAt station offset residual count) = ((λ e. cc), (λ e. cc))
-from-answered (LocatedRefused why) = ((λ e. clash cc), (λ e. clash cc))
+-- the rule of its numbers
+whole-hold : (x y : Float) → (verdict (numberRules x y) ≡ Done) ↔ BothWhole x y
+unfolding numberRules
+whole-hold x y =
+    let both = and-eq-true-iff (isWhole (wholeOf x)) (isWhole (wholeOf y)) in
+    ((λ e. both .0 (holds-one (done→all _ e))), (λ h. all→done (one-holds (both .1 h))))
 
--- ---- a reading of two numbers on a crest, whatever it asks: the rule of its numbers stands between the crest's own rules and those of the question q
-
-module _ (c : Crest) (x y : Float) where
-  numbers-hold : (verdict (c .rules ++ numberRules x y) ≡ Done) ↔ ((checkOf c ≡ Done) × BothWhole x y)
-  unfolding numberRules
-  numbers-hold =
-      let both = and-eq-true-iff (isWhole (wholeOf x)) (isWhole (wholeOf y)) in (
-        (λ e. let a = append-all (c .rules) (done→all _ e) in (all→done (a .0), both .0 (holds-one (a .1)))),
-        (λ h. all→done (all-append (done→all (c .rules) (h .0)) (one-holds (both .1 (h .1))))),
-      )
-
-  -- of whole numbers it comes to what the question does
-  came-as : {A : Type 0} (from : A → ReadingAnswer) (q : Question A) → ((why : Refusal) → from (q .refused why) ≡ AnswerRefused why) → BothWhole x y → answerAfter (c .rules) (numberedQuestion x y from q) ≡ from (answerAfter (c .rules) q)
-  unfolding answerAfter numberRules
-  came-as from q refuses h =
-      let hold = all→done (one-holds (and-eq-true-iff (isWhole (wholeOf x)) (isWhole (wholeOf y)) .1 h)) in
-      numbered x y from q refuses (c .rules)
-      ∙ ap (λ o. from (answerIf o q)) (ap verdict (append-assoc (c .rules) (numberRules x y) (q .order)) ∙ held-between (c .rules) (numberRules x y) (q .order) hold)
-
-  module _ (own : Gives isOwn (c .rules)) {A : Type 0} {refused : Refusal → A} {paperOf : A → PaperAnswer} {paper : ReadingAnswer → PaperAnswer} (from : A → ReadingAnswer) (q : Question A) (tells : Tells refused paperOf q)
-      (asks : Tells AnswerRefused paper (numberedQuestion x y from q)) where
-    abbrev came : ReadingAnswer
-    came = answerAfter (c .rules) (numberedQuestion x y from q)
-
-    -- refused exactly when its order is
-    came-refused : (w : Refusal) → (came ≡ AnswerRefused w) ↔ (verdict (c .rules ++ (numberRules x y ++ q .order)) ≡ Refused w)
-    unfolding numberedQuestion
-    came-refused w = told-exactly asks (c .rules) w
-
-    -- with a number that neither the crest nor the rule of its numbers gives: as the question is
-    refused-as : (w : Refusal) → isOwn (w .number) ≡ false → w .number ≢ 10 → (came ≡ AnswerRefused w) ↔ (BothWhole x y × (answerAfter (c .rules) q ≡ refused w))
-    unfolding numberRules number
-    refused-as w later other-number =
-        let lacks = lacks-other own later in
-        let all = rw (append-assoc (c .rules) (numberRules x y) (q .order)) at (second-part (c .rules ++ numberRules x y) (q .order) w (lacks-++ lacks (other (λ e. other-number (sym e)) empty))) in
-        let some = Iff·trans (told-exactly tells (c .rules) w) (second-part (c .rules) (q .order) w lacks) in
-        Iff·trans (Iff·trans (came-refused w) all) (
-          (λ a. let h = numbers-hold .0 (a .0) in (h .1, some .1 (h .0, a .1))),
-          (λ z. let a = some .0 (z .1) in (numbers-hold .1 (a .0, z .0), a .1)),
-        )
-
-    -- and what makes the question be refused so
-    given-as : (why : Reason) {C : Type 0} → isOwn (number why) ≡ false → number why ≢ 10 → ((answerAfter (c .rules) q ≡ refused (refusal why 0)) ↔ ((checkOf c ≡ Done) × C)) → (came ≡ AnswerRefused (refusal why 0)) ↔ ((checkOf c ≡ Done) × BothWhole x y × C)
-    unfolding refusal
-    given-as why later other-number given =
-        Iff·trans (refused-as (refusal why 0) later other-number) (
-          (λ z. let g = given .0 (z .1) in (g .0, z .0, g .1)),
-          (λ z. (z .1, given .1 (z .0, z .2))),
-        )
-
-    -- with a crest's own number: as the crest is
-    refused-own : (w : Refusal) → isOwn (w .number) ≡ true → Lacks (w .number) (q .order) → (came ≡ AnswerRefused w) ↔ (checkOf c ≡ Refused w)
-    unfolding numberRules number isOwn
-    refused-own w own-number lacks = Iff·trans (came-refused w) (first-part (c .rules) (numberRules x y ++ q .order) w (lacks-++ (other (not-own notWhole own-number refl) empty) lacks))
-
-    -- with 10: where a number is not whole
-    refused-10 : Lacks 10 (q .order) → (came ≡ AnswerRefused (refusal notWhole 0)) ↔ ((checkOf c ≡ Done) × ((wholeOf x ≡ none) ⊎ (wholeOf y ≡ none)))
-    unfolding numberRules number isOwn
-    refused-10 lacks =
-        Iff·trans (came-refused (refusal notWhole 0))
-        (Iff·trans (next-after-crest (rule₀ notWhole (isWhole (wholeOf x) && isWhole (wholeOf y))) (q .order) lacks c own refl) (Iff·and Iff·rfl (not-both-whole (wholeOf x) (wholeOf y))))
-
-    -- with a number that no rule gives: never
-    never-refused : (w : Refusal) → isOwn (w .number) ≡ false → w .number ≢ 10 → Lacks (w .number) (q .order) → came ≢ AnswerRefused w
-    unfolding numberRules number
-    never-refused w later other-number lacks e = lacks→not-given (lacks-++ (lacks-other own later) (lacks-++ (other (λ f. other-number (sym f)) empty) lacks)) (came-refused w .0 e)
+lacks-whole : (x y : Float) {n : ℕ} → n ≢ 10 → Lacks n (numberRules x y)
+unfolding numberRules number
+lacks-whole x y h = other (λ e. h (sym e)) empty
 
 -- ---- of a plane point and of a line place
 
@@ -158,72 +95,75 @@ module _ (c : Crest) (own : Gives isOwn (c .rules)) (x y : Float) where
   -- of whole numbers it is refused as the point or the place of these numbers is
   pub point-refused-as : (why : Refusal) → isOwn (why .number) ≡ false → why .number ≢ 10 → (answerTo c (PlanePoint x y) ≡ AnswerRefused why) ↔ (BothWhole x y × (located c (pointRead x y) ≡ LocatedRefused why))
   unfolding readingQuestion
-  point-refused-as = refused-as c x y own fromLocated _ (point-tells (pointRead x y) es) (reading-tells (PlanePoint x y) es)
+  point-refused-as why later others =
+      Iff·trans (refused-as c (numberRules x y) own fromLocated _ (point-tells (pointRead x y) es) (reading-tells (PlanePoint x y) es) why later (lacks-whole x y others)) (Iff·and (whole-hold x y) Iff·rfl)
 
   pub place-refused-as : (why : Refusal) → isOwn (why .number) ≡ false → why .number ≢ 10 → (answerTo c (LinePlace x y) ≡ AnswerRefused why) ↔ (BothWhole x y × (inverse c s w ≡ InverseRefused why))
   unfolding readingQuestion
-  place-refused-as = refused-as c x y own fromInverse _ (place-tells s w es) (reading-tells (LinePlace x y) es)
+  place-refused-as why later others =
+      Iff·trans (refused-as c (numberRules x y) own fromInverse _ (place-tells s w es) (reading-tells (LinePlace x y) es) why later (lacks-whole x y others)) (Iff·and (whole-hold x y) Iff·rfl)
 
   -- and comes to what that does
   pub point-reading : BothWhole x y → answerTo c (PlanePoint x y) ≡ fromLocated (located c (pointRead x y))
   unfolding readingQuestion pointQuestion fromLocated
-  point-reading = came-as c x y fromLocated _ (λ why. refl)
+  point-reading h = came-as c (numberRules x y) fromLocated _ (λ why. refl) (whole-hold x y .1 h)
 
   pub place-reading : BothWhole x y → answerTo c (LinePlace x y) ≡ fromInverse (inverse c s w)
   unfolding readingQuestion placeQuestion fromInverse
-  place-reading = came-as c x y fromInverse _ (λ why. refl)
+  place-reading h = came-as c (numberRules x y) fromInverse _ (λ why. refl) (whole-hold x y .1 h)
 
   -- "A point that meets no refusal is answered, and the station answered is the one judged.", of a plane reading
   pub reading-answered : (station : ℕ) (offset residual : ℤ) (count : ℕ) → (answerTo c (PlanePoint x y) ≡ AnswerPoint station offset residual count)
       ↔ ((checkOf c ≡ Done) × BothWhole x y × Answered (c .elements) (pointRead x y) station offset residual count)
+  unfolding readingQuestion
   reading-answered station offset residual count =
-      let p = pointRead x y in
-      let at = crest-answered c own p station offset residual count in (
-        (λ e.
-            let on = told-answer (point-tells p es) (c .rules ++ numberRules x y) {a = LocatedAt station offset residual count} (λ why f. clash cc) (from-answered _ .0 (sym (plane-asked (c .rules) x y es) ∙ e)) in
-            let h = numbers-hold c x y .0 (on .0) in
-            (h .0, h .1, at .0 (rules-hold (pointQuestion p es) (c .rules) (h .0) ∙ on .1) .1)),
-        (λ z. point-reading (z .1) ∙ from-answered (located c p) .1 (at .1 (z .0, z .2))),
-      )
+      point-answered c (numberRules x y) own (whole-hold x y) (pointRead x y) station offset residual count
 
   -- ---- 1 to 9: a reading is refused with a crest's own number exactly when the crest is
 
   pub point-refused-own : (why : Refusal) → isOwn (why .number) ≡ true → (answerTo c (PlanePoint x y) ≡ AnswerRefused why) ↔ (checkOf c ≡ Refused why)
-  unfolding readingQuestion pointQuestion pointRules number isOwn
+  unfolding readingQuestion numberRules pointQuestion pointRules number isOwn
   point-refused-own why k =
-      refused-own c x y own fromLocated _ (point-tells (pointRead x y) es) (reading-tells (PlanePoint x y) es) why k
-      (other (not-own outsideFrame k refl) (other (not-own tooFar k refl) (other (not-own beforeStart k refl) (other (not-own afterEnd k refl) empty))))
+      refused-own c (numberRules x y) own fromLocated _ (point-tells (pointRead x y) es) (reading-tells (PlanePoint x y) es) why
+      (other (not-own notWhole k refl) (other (not-own outsideFrame k refl) (other (not-own tooFar k refl) (other (not-own beforeStart k refl) (other (not-own afterEnd k refl) empty)))))
 
   pub place-refused-own : (why : Refusal) → isOwn (why .number) ≡ true → (answerTo c (LinePlace x y) ≡ AnswerRefused why) ↔ (checkOf c ≡ Refused why)
-  unfolding readingQuestion placeQuestion lineRules number isOwn
+  unfolding readingQuestion numberRules placeQuestion lineRules number isOwn
   place-refused-own why k =
-      refused-own c x y own fromInverse _ (place-tells s w es) (reading-tells (LinePlace x y) es) why k (other (not-own askedOutOfRange k refl) (other (not-own outsideFrame k refl) empty))
+      refused-own c (numberRules x y) own fromInverse _ (place-tells s w es) (reading-tells (LinePlace x y) es) why (other (not-own notWhole k refl) (other (not-own askedOutOfRange k refl) (other (not-own outsideFrame k refl) empty)))
 
   -- "when the point's station is asked for": 12, 13 and 14 are no line place's
   pub place-not-judged : (why : Refusal) → 12 ≤ why .number → why .number ≤ 14 → answerTo c (LinePlace x y) ≢ AnswerRefused why
   unfolding readingQuestion placeQuestion lineRules number isOwn
   place-not-judged why low high =
       let later = own-apart (why .number) (omega arith) (omega arith) in
-      never-refused c x y own fromInverse _ (place-tells s w es) (reading-tells (LinePlace x y) es) why later (λ e. omega arith) (other (λ e. omega arith) (other (λ e. omega arith) empty))
+      never-refused c (numberRules x y) own fromInverse _ (place-tells s w es) (reading-tells (LinePlace x y) es) why later (lacks-whole x y (λ e. omega arith)) (other (λ e. omega arith) (other (λ e. omega arith) empty))
 
   -- and 15 is no plane point's
   pub point-not-out-of-range : (why : Refusal) → why .number ≡ 15 → answerTo c (PlanePoint x y) ≢ AnswerRefused why
   unfolding readingQuestion pointQuestion pointRules number
   point-not-out-of-range why e =
       let later = own-apart (why .number) (omega arith) (omega arith) in
-      never-refused c x y own fromLocated _ (point-tells (pointRead x y) es) (reading-tells (PlanePoint x y) es) why later (λ f. omega arith)
+      never-refused c (numberRules x y) own fromLocated _ (point-tells (pointRead x y) es) (reading-tells (PlanePoint x y) es) why later (lacks-whole x y (λ f. omega arith))
       (other (λ f. omega arith) (other (λ f. omega arith) (other (λ f. omega arith) (other (λ f. omega arith) empty))))
 
   -- ---- 10: "a reading's number not finite or not whole"
 
+  refused-10 : {A : Type 0} {refused : Refusal → A} {paperOf : A → PaperAnswer} {paper : ReadingAnswer → PaperAnswer} (from : A → ReadingAnswer) (q : Question A) → Tells refused paperOf q → Tells AnswerRefused paper (putAfter (numberRules x y) from q) →
+      Lacks 10 (q .order) → (answerAfter (c .rules) (putAfter (numberRules x y) from q) ≡ AnswerRefused (refusal notWhole 0)) ↔ ((checkOf c ≡ Done) × ((wholeOf x ≡ none) ⊎ (wholeOf y ≡ none)))
+  unfolding numberRules number isOwn
+  refused-10 from q tells asks lacks =
+      Iff·trans (came-refused c (numberRules x y) own from q tells asks (refusal notWhole 0))
+      (Iff·trans (next-after-crest (rule₀ notWhole (isWhole (wholeOf x) && isWhole (wholeOf y))) (q .order) lacks c own refl) (Iff·and Iff·rfl (not-both-whole (wholeOf x) (wholeOf y))))
+
   pub point-refused-10 : (answerTo c (PlanePoint x y) ≡ AnswerRefused (refusal notWhole 0)) ↔ ((checkOf c ≡ Done) × ((wholeOf x ≡ none) ⊎ (wholeOf y ≡ none)))
   unfolding readingQuestion pointQuestion pointRules number
   point-refused-10 =
-      refused-10 c x y own fromLocated _ (point-tells (pointRead x y) es) (reading-tells (PlanePoint x y) es) (other (omega arith) (other (omega arith) (other (omega arith) (other (omega arith) empty))))
+      refused-10 fromLocated _ (point-tells (pointRead x y) es) (reading-tells (PlanePoint x y) es) (other (omega arith) (other (omega arith) (other (omega arith) (other (omega arith) empty))))
 
   pub place-refused-10 : (answerTo c (LinePlace x y) ≡ AnswerRefused (refusal notWhole 0)) ↔ ((checkOf c ≡ Done) × ((wholeOf x ≡ none) ⊎ (wholeOf y ≡ none)))
   unfolding readingQuestion placeQuestion lineRules number
-  place-refused-10 = refused-10 c x y own fromInverse _ (place-tells s w es) (reading-tells (LinePlace x y) es) (other (omega arith) (other (omega arith) empty))
+  place-refused-10 = refused-10 fromInverse _ (place-tells s w es) (reading-tells (LinePlace x y) es) (other (omega arith) (other (omega arith) empty))
 
   -- ---- 11 to 15 of a reading on a crest
 
@@ -231,7 +171,7 @@ module _ (c : Crest) (own : Gives isOwn (c .rules)) (x y : Float) where
   point-given : (why : Reason) {C : Type 0} → isOwn (number why) ≡ false → number why ≢ 10 → ((located c (pointRead x y) ≡ LocatedRefused (refusal why 0)) ↔ ((checkOf c ≡ Done) × C)) →
       (answerTo c (PlanePoint x y) ≡ AnswerRefused (refusal why 0)) ↔ ((checkOf c ≡ Done) × BothWhole x y × C)
   unfolding readingQuestion
-  point-given = given-as c x y own fromLocated _ (point-tells (pointRead x y) es) (reading-tells (PlanePoint x y) es)
+  point-given why later others = given-as c (numberRules x y) own fromLocated _ (point-tells (pointRead x y) es) (reading-tells (PlanePoint x y) es) why later (lacks-whole x y others) (whole-hold x y)
 
   pub reading-refused-11 : (answerTo c (PlanePoint x y) ≡ AnswerRefused (refusal outsideFrame 0))
       ↔ ((checkOf c ≡ Done) × BothWhole x y × (inFrame (valueOf (wholeOf x)) (valueOf (wholeOf y)) ≡ false))
@@ -254,7 +194,7 @@ module _ (c : Crest) (own : Gives isOwn (c .rules)) (x y : Float) where
   place-given : (why : Reason) {C : Type 0} → isOwn (number why) ≡ false → number why ≢ 10 → ((inverse c s w ≡ InverseRefused (refusal why 0)) ↔ ((checkOf c ≡ Done) × C)) →
       (answerTo c (LinePlace x y) ≡ AnswerRefused (refusal why 0)) ↔ ((checkOf c ≡ Done) × BothWhole x y × C)
   unfolding readingQuestion
-  place-given = given-as c x y own fromInverse _ (place-tells s w es) (reading-tells (LinePlace x y) es)
+  place-given why later others = given-as c (numberRules x y) own fromInverse _ (place-tells s w es) (reading-tells (LinePlace x y) es) why later (lacks-whole x y others) (whole-hold x y)
 
   pub reading-refused-15 : (answerTo c (LinePlace x y) ≡ AnswerRefused (refusal askedOutOfRange 0))
       ↔ ((checkOf c ≡ Done) × BothWhole x y × ((isStation (c .elements) s ≡ false) ⊎ (20000000 < natAbs w)))

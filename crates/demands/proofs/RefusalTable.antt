@@ -19,6 +19,7 @@ use Rattle.model.specs.declared.Outcome.the-variants.{Done, Refused}
 use Rattle.model.specs.declared.Placed.the-variants.{Refused as PlacedRefused}
 use Rattle.model.specs.declared.Located.the-variants.{Refused as LocatedRefused}
 use Rattle.model.specs.declared.Inverse.the-variants.{Refused as InverseRefused}
+use Rattle.model.specs.declared.Move.{Move}
 use Rattle.model.specs.declared.Move.the-variants.{Refused as MoveRefused}
 use Rattle.model.specs.declared.ReadingAnswer.{ReadingAnswer}
 use Rattle.model.specs.declared.ReadingAnswer.the-variants.{Refused as AnswerRefused}
@@ -29,11 +30,11 @@ use Rattle.model.specs.Acceptance.{inFrame, isUnit, recordRules, joinRules, ele
 use Rattle.model.specs.Crest.{Crest, checkOf, fileCrest, isOwn}
 use Rattle.model.specs.Stations.{isStation}
 use Rattle.model.specs.Writer.{countFits, blocksNeeded, writerRules, writerOutcome}
-use Rattle.model.specs.Answers.{code, paperOfOutcome, readerOutcome, stationRules, stationQuestion, placed, pointRules, pointQuestion, located, inverseAt, lineRules, placeQuestion, inverse, moveRules, moveQuestion, stakeOut}
-use Rattle.model.proofs.Answers.{told-exactly, station-tells, point-tells, place-tells, move-tells}
+use Rattle.model.specs.Answers.{code, paperOfOutcome, Question, answerOf, readerOutcome, stationRules, stationQuestion, placed, pointRules, pointQuestion, located, inverseAt, lineRules, placeQuestion, inverse, moveRules, moveQuestion, stakeOut, paperOfMove}
+use Rattle.model.proofs.Answers.{Tells, told-exactly, station-tells, point-tells, place-tells, move-tells}
 use Rattle.model.specs.Readings.{refusesReading}
 use Rattle.model.specs.Run.{isFull, runAt, noted}
-use Rattle.model.specs.Calls.{readingCall, acknowledgeCall, stakeOutCall}
+use Rattle.model.specs.Calls.{readingCall, acknowledgeCall, moveCall, stakeOutCall}
 use Rattle.model.specs.Histories.{Came}
 use Rattle.model.proofs.Verdict.{reason-numbered, none, more, done→all, all→done}
 use Rattle.model.proofs.RuleNumbers.{records-own}
@@ -48,7 +49,7 @@ use Rattle.integers.proofs.Tests.{and-fails}
 use Rattle.model.proofs.AfterCrest.{two-rules, first-given, given-after-crest, next-after-crest}
 use Rattle.demands.proofs.Places.{first-part, second-part, lacks-rule, lacks-forEach, nowhere, here, given-at-place}
 use Rattle.demands.proofs.RecordRefusals.{RecordGives4, RecordGives5, RecordGives6, RecordGives7, JoinGives8, JoinGives9, record-gives-4, record-gives-5, record-gives-6, record-gives-7, join-gives-8, join-gives-9, RecordReached, JoinReached, records-lack, given-at-record, given-at-join}
-use Rattle.demands.proofs.Demand1.{Numbered, refused-numbered, came-as-read, ReadingEnds, no-run, run-full, counts, any-reading-call, stakeOutRules, stake-out-code}
+use Rattle.demands.proofs.Demand1.{Numbered, refused-numbered, came-as-read, ReadingEnds, no-run, run-full, counts, any-reading-call, callRules, move-code}
 
 -- ---- 1 to 3 of a file's own bytes: "1; 2 for all blocks; 3 for all"
 
@@ -383,30 +384,36 @@ returns-number why rs = (go (verdict rs) (refused-numbered rs), (λ e. ap (λ o.
         let p : w .place ≡ 0 = omega (arith, reason-numbered why, h w refl) in
         ap₂ (λ (m k : ℕ). Refused (record { number = m; place = k })) n p
 
--- "a C move's not 8"
-pub stake-out-call-refused-18 : (own target : Point) (c s : ℤ) (room : List ℕ) → (stakeOutCall own target c s room .0 ≡ 18) ↔ (length room ≢ 8)
-unfolding moveRules number
-stake-out-call-refused-18 own target c s room =
-    rw (stake-out-code own target c s room)
-    (Iff·trans (returns-number wrongRoom (stakeOutRules own target c s room))
-    (Iff·trans (first-given (rule₀ wrongRoom (eqb (length room) 8)) (moveRules own target c s) (other (omega arith) (other (omega arith) (other (omega arith) empty)))) (eqb-false (length room) 8, ne-eqb (length room) 8)))
-
--- 11 and 7 of a C move: where its room is 8 bytes, as the move is refused
-module _ (own target : Point) (c s : ℤ) (room : List ℕ) where
-  given-by-call : (why : Reason) → number why ≢ 18 → (stakeOutCall own target c s room .0 ≡ number why) ↔ ((length room ≡ 8) × (stakeOut own target c s ≡ MoveRefused (refusal why 0)))
-  unfolding moveQuestion number refusal
-  given-by-call why other-number =
-      let room-fits = rule₀ wrongRoom (eqb (length room) 8) in
-      rw (stake-out-code own target c s room)
-      (Iff·trans (returns-number why (stakeOutRules own target c s room))
-      (Iff·trans (second-part (room-fits ∷ []) (moveRules own target c s) (refusal why 0) (other (λ e. other-number (sym e)) empty))
-      (Iff·and (Iff·trans (one-done wrongRoom 0) (eqb-true (length room) 8, eq-eqb (length room) 8)) (Iff·symm (told-exactly (move-tells own target c s) [] (refusal why 0))))))
-
-  pub stake-out-call-refused-11 : (stakeOutCall own target c s room .0 ≡ 11) ↔ ((length room ≡ 8) × ((inFrame (own .x) (own .y) ≡ false) ⊎ (inFrame (target .x) (target .y) ≡ false)))
+-- "a C move's not 8", of any question whose answer is a move
+module _ {q : Question Move} (tells : Tells MoveRefused paperOfMove q) (room : List ℕ) where
+  pub move-call-refused-18 : Lacks 18 (q .order) → (moveCall q room .0 ≡ 18) ↔ (length room ≢ 8)
   unfolding number
-  stake-out-call-refused-11 = Iff·trans (given-by-call outsideFrame (omega arith)) (Iff·and Iff·rfl (stake-out-refused-11 own target c s))
+  move-call-refused-18 lacks =
+      rw (move-code tells room)
+      (Iff·trans (returns-number wrongRoom (callRules q room))
+      (Iff·trans (first-given (rule₀ wrongRoom (eqb (length room) 8)) (q .order) lacks) (eqb-false (length room) 8, ne-eqb (length room) 8)))
+
+  -- any other number: where the room is 8 bytes, as the move is refused
+  pub move-call-refused : (why : Reason) → number why ≢ 18 → (moveCall q room .0 ≡ number why) ↔ ((length room ≡ 8) × (answerOf q ≡ MoveRefused (refusal why 0)))
+  unfolding number refusal
+  move-call-refused why other-number =
+      let room-fits = rule₀ wrongRoom (eqb (length room) 8) in
+      rw (move-code tells room)
+      (Iff·trans (returns-number why (callRules q room))
+      (Iff·trans (second-part (room-fits ∷ []) (q .order) (refusal why 0) (other (λ e. other-number (sym e)) empty))
+      (Iff·and (Iff·trans (one-done wrongRoom 0) (eqb-true (length room) 8, eq-eqb (length room) 8)) (Iff·symm (told-exactly tells [] (refusal why 0))))))
+
+-- 18, 11 and 7 of a C stake-out
+pub stake-out-call-refused-18 : (own target : Point) (c s : ℤ) (room : List ℕ) → (stakeOutCall own target c s room .0 ≡ 18) ↔ (length room ≢ 8)
+unfolding stakeOutCall moveQuestion moveRules number
+stake-out-call-refused-18 own target c s room = move-call-refused-18 (move-tells own target c s) room (other (omega arith) (other (omega arith) (other (omega arith) empty)))
+
+module _ (own target : Point) (c s : ℤ) (room : List ℕ) where
+  pub stake-out-call-refused-11 : (stakeOutCall own target c s room .0 ≡ 11) ↔ ((length room ≡ 8) × ((inFrame (own .x) (own .y) ≡ false) ⊎ (inFrame (target .x) (target .y) ≡ false)))
+  unfolding stakeOutCall number
+  stake-out-call-refused-11 = Iff·trans (move-call-refused (move-tells own target c s) room outsideFrame (omega arith)) (Iff·and Iff·rfl (stake-out-refused-11 own target c s))
 
   pub stake-out-call-refused-7 : (stakeOutCall own target c s room .0 ≡ 7) ↔
       ((length room ≡ 8) × ((inFrame (own .x) (own .y) ≡ true) × (inFrame (target .x) (target .y) ≡ true) × (isUnit c s ≡ false)))
-  unfolding number
-  stake-out-call-refused-7 = Iff·trans (given-by-call notUnit (omega arith)) (Iff·and Iff·rfl (stake-out-refused-7 own target c s))
+  unfolding stakeOutCall number
+  stake-out-call-refused-7 = Iff·trans (move-call-refused (move-tells own target c s) room notUnit (omega arith)) (Iff·and Iff·rfl (stake-out-refused-7 own target c s))

@@ -1,5 +1,5 @@
 #!/usr/bin/env python3
-"""Writes the vectors that the program comparisons compares with, those of the four modules in the layout of rows.py, and what it
+"""Writes the vectors that the program comparisons compares with, those of the five modules in the layout of rows.py, and what it
 has to print: the files stdin and stdout of a folder.
 
 usage: comparisons.py FOLDER
@@ -12,6 +12,7 @@ from pathlib import Path
 import crest_corpus
 import element_vectors
 import reading_vectors
+import sighting_vectors
 import walk_vectors
 from rows import Rows
 
@@ -20,7 +21,7 @@ def main(arguments):
     if len(arguments) != 1:
         sys.exit("usage: comparisons.py FOLDER")
     rows = Rows()
-    for vectors in (element_vectors, crest_corpus, walk_vectors, reading_vectors):
+    for vectors in (element_vectors, crest_corpus, walk_vectors, reading_vectors, sighting_vectors):
         vectors.add_rows(rows)
     folder = Path(arguments[0])
     (folder / "stdin").write_bytes(rows.written())

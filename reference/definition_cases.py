@@ -3,7 +3,8 @@
 For each chapter of the definitions cases are made with a fixed seed: a definition applied to an input, and
 what the reference gives for it. They are written as tables whose equality is proved by `refl`, into a copy
 of the repository's crates in a temporary folder, and checked there. Then a false table for each table
-is checked, made by exchanging two expected values, which has to be refused.
+is checked, made by exchanging two expected values, and of sightings further ones, whose values false rules give;
+each has to be refused.
 
 definition_cases.py [--part] [FOLDER] uses FOLDER, which must not exist yet, and keeps it. With --part only a
 part of the cases is checked, always the same: of each table whose cases are dear, every third; and all false
@@ -19,22 +20,30 @@ import subprocess
 import sys
 import tempfile
 import time
+from collections import Counter
 from fractions import Fraction
+from itertools import combinations, cycle
 from pathlib import Path
-from typing import NamedTuple
+from typing import Callable, NamedTuple
 
 sys.dont_write_bytecode = True
 
 import crest
 import random_crests
+import random_sightings
+import sighting_vectors
 from crest import (
     ARC, BLOCK_SIZE, BLOCK_ZEROS, C_AT, EDITION, EDITION_AT, ENTRY, EXIT, FIELDS_AT, FILE_SIZES, FIRST_STEP, FRAME,
-    GRAINS, KIND_AT, LAST_NUMBER, LINE, LONGEST_ALIGNMENT, LONGEST_ELEMENT, MOST_BLOCKS, MOST_COUNTED, MOST_RECORDS,
-    MOVE_SIZE, ONE, PAST_END, PER_BLOCK, PLACE_UNIT, RADIUS_AT, READING_SIZE, RECORD_LENGTH_AT, RECORD_SIZE,
-    RECORDS_END, RESERVED, ROOT_SLACK, RUN_SIZE, STEP_DIVISOR, SUMS_AT, UNIT_SQUARE, USED_AT, WIDEST,
-    WIDEST_GAP, WIDEST_KINK, WIDEST_OFFSET, X_AT, Y_AT, Element, Refusal, blocks_needed, least_radius,
+    GRAINS, KIND_AT, LAST_NUMBER, LINE, LONGEST_ALIGNMENT, LONGEST_ELEMENT, LONGEST_SIGHT, MOST_BLOCKS, MOST_COUNTED,
+    MOST_RECORDS, MOVE_SIZE, ONE, PAST_END, PER_BLOCK, PLACE_UNIT, RADIUS_AT, READING_SIZE, RECORD_LENGTH_AT,
+    RECORD_SIZE, RECORDS_END, RESERVED, ROOT_SLACK, RUN_SIZE, STEP_DIVISOR, SUMS_AT, UNIT_SQUARE, USED_AT, WIDEST,
+    WIDEST_GAP, WIDEST_KINK, WIDEST_OFFSET, X_AT, Y_AT, Element, Refusal, Sighting, blocks_needed, least_radius,
 )  # fmt: skip
 from random_crests import FAR, Wish
+from random_sightings import (
+    GREATEST, LEAST, anywhere, from_inside, no_sight, no_unit, on_the_rim, outside, random_sighting, random_target,
+    sight, sighting_of, unit_pair,
+)  # fmt: skip
 
 SEED = 20_01
 FEWEST = 200  # cases for each chapter
@@ -144,6 +153,7 @@ class Chapter(NamedTuple):
     tables: list
     before: tuple = ()
     after: tuple = ()  # further declarations, each of one case
+    false: tuple = ()  # further false tables, of one case each
 
     @property
     def module(self):
@@ -324,6 +334,7 @@ NAMED_NUMBERS = {
         lastZeroCount""",
     "Acceptance": "longestElement frame widest unitSlack widestGap widestKink",
     "Answers": "farthest pastEnd widestOffset",
+    "Sightings": "longestSight",
     "Run": """
         mostCounted runSize answeredAt refusedAt latestAt firstAt firstReadingAt oneAt twoAt threeAt""",
     "Calls": "moveSize forwardAt leftAt",
@@ -1285,9 +1296,9 @@ def answer_text(reading, answer):
     if answer.number:
         return f"AnswerRefused {refusal_text(answer.number, answer.place)}"
     a, b, c = answer.three
-    if isinstance(reading, crest.PlanePoint):
-        return f"AnswerPoint {a} {whole(b)} {whole(c)} {answer.count}"
-    return f"AnswerPlace {whole(a)} {whole(b)}"
+    if isinstance(reading, crest.LinePlace):
+        return f"AnswerPlace {whole(a)} {whole(b)}"
+    return f"AnswerPoint {a} {whole(b)} {whole(c)} {answer.count}"
 
 
 def display_text(pair):
@@ -1301,8 +1312,8 @@ def reading_text(reading):
 
 
 def values_of(reading, answer):
-    """The values that a reading asks for: station, offset, residual, visits; or X, Y."""
-    return (*answer.three, answer.count) if isinstance(reading, crest.PlanePoint) else answer.three[:2]
+    """The values that a reading or a sighting asks for: station, offset, residual, visits; or X, Y."""
+    return answer.three[:2] if isinstance(reading, crest.LinePlace) else (*answer.three, answer.count)
 
 
 def reading_paper(reading, answer):
@@ -1890,6 +1901,433 @@ def any_crest(rng):
     return Chapter(15, "Crest", uses, tables, (PAPER_FORM, CREST_FORM, *shown(named)))
 
 
+# ---------------------------------------------------------------------------
+# 16 Sightings
+
+FAULTS = "backsight", "angle", "place", "distance", "point"  # in the order of their refusals
+FAULT_SETS = [some for count in range(len(FAULTS) + 1) for some in combinations(FAULTS, count)]
+OF_SIGHTINGS = {*OWN, 11, 12, 13, 14, 15}  # "after the crest's own, 7 .., 11 .., 15 .., 11 ..; then 12 to 14"
+OF_SIGHTED_MOVES = {7, 11, 15}
+SIGHTING_FIELDS = "x", "y", "«backsight_c»", "«backsight_s»", "«angle_c»", "«angle_s»", "distance"
+# What a sighting on a crest is computed by, and a reading or a sighting.
+SIGHTED = "answerAfter sightingQuestion"
+OBSERVED = "answerAfter observedQuestion ofBits"
+BRIEF = Named("brief", crest.Alignment([Element(LINE, 3, 0, 0, ONE, 0, 0)]))
+
+
+def sighting_text(sighting):
+    """As an argument, its numbers in the order of the calls."""
+    return f"(sightingOf {' '.join(map(whole, sighting))})"
+
+
+def observation_text(reading):
+    """A reading or a sighting as an argument."""
+    if isinstance(reading, Sighting):
+        return f"(Sighted {sighting_text(reading)})"
+    return f"(Read {reading_text(reading)})"
+
+
+def is_sight(distance):
+    return 0 <= distance <= LONGEST_SIGHT
+
+
+def faults_of(sighting):
+    """What of a sighting is refused, whatever crest or target it has."""
+    x, y, b, g, a, h, d = sighting
+    point = crest.sighted_point(sighting)
+    pairs = crest.is_unit(b, g), crest.is_unit(a, h)
+    holds = *pairs, crest.in_frame(x, y), is_sight(d), crest.in_frame(*point)
+    return tuple(fault for fault, held in zip(FAULTS, holds) if not held)
+
+
+def faulty(rng, faults):
+    """A sighting with these faults and no others, of a point close to an edge of the frame."""
+    while True:
+        pairs = [no_unit(rng) if pair in faults else unit_pair(rng) for pair in FAULTS[:2]]
+        distance = no_sight(rng) if "distance" in faults else sight(rng)
+        point = on_the_rim(rng, anywhere(rng), rng.choice((-1_000, -1, 0, 1)))
+        sighting = sighting_of(point, *pairs, distance)
+        if faults_of(sighting) == faults and all(LEAST <= n <= GREATEST for n in sighting):
+            return sighting
+
+
+def sightings_alone(rng):
+    """Direction and point, a sighting's own refusals, and the question of both."""
+    drawn = [faulty(rng, faults) for faults in FAULT_SETS]
+    drawn += [random_sightings.halves(rng, anywhere(rng)) for _ in range(12)]
+    drawn += [random_sighting(rng) for _ in range(60)]
+    spelt_out, turned, points, rules, found, answered, papers = [], [], [], [], [], [], []
+    units = []
+    for sighting in drawn:
+        text, fault = sighting_text(sighting), crest.sighting_fault(sighting)
+        fields = "; ".join(f"{name} = {whole(n)}" for name, n in zip(SIGHTING_FIELDS, sighting))
+        spelt_out.append(Case(text, f"record {{ {fields} }}"))
+        direction, point = crest.turned_direction(sighting), crest.sighted_point(sighting)
+        turned.append(Case(f"turnedOf {text}", point_text(direction)))
+        points.append(Case(f"sightedOf {text}", point_text(point)))
+        rules.append(Case(f"verdict (sightRules {text})", outcome_text(Refusal(fault, 0) if fault else None)))
+        answer = crest.StationAnswer(0, 0, *point, *direction)
+        found.append(Case(f"sightQuestion {text} .answer", placed_text(answer)))
+        if fault:
+            answer = crest.StationAnswer(fault, 0)
+        else:
+            units.append(crest.is_unit(*direction))
+        answered.append(Case(f"answerOf (sightQuestion {text})", placed_text(answer)))
+        papers.append(Case(f"paperAfter [] (sightQuestion {text})", paper_text(*answer)))
+    assert min(units.count(True), units.count(False)) >= 8, units  # "The turned pair isn't tested again as a unit."
+    distances = [n + by for n in (0, LONGEST_SIGHT) for by in (-2, -1, 0, 1, 2)]
+    distances += [*I32, -LONGEST_SIGHT, -(2**40), 2**40, *(sighting.distance for sighting in drawn[::4])]
+    return [
+        Table("spelt", "Sighting", "turnedOf", spelt_out[::8]),
+        Table("turned", "Point", "turnedOf", turned),
+        Table("points", "Point", "sightedOf", points),
+        Table("sights", "Bool", "isSight", [Case(f"isSight {whole(d)}", truth(is_sight(d))) for d in distances]),
+        Table("own-refusals", "Outcome", "verdict sightRules", rules),
+        Table("questions", "Placed", "sightQuestion", found[1::2]),
+        Table("question-answers", "Placed", "answerAfter sightQuestion", answered),
+        Table("question-papers", "PaperAnswer", "paperAfter sightQuestion", papers[::2]),
+    ]
+
+
+def sighted_moves(rng):
+    """Moves by value and as a C call on rooms of some sizes; each set of faults with a target inside and outside."""
+    asked = []
+    for faults in FAULT_SETS:
+        asked += [(faulty(rng, faults), target) for target in (anywhere(rng), outside(rng, anywhere(rng)))]
+    for _ in range(60):
+        sighting = random_sighting(rng)
+        asked.append((sighting, random_target(rng, sighting)))
+    moves, papers, calls = [], [], []
+    sizes = MOVE_SIZE, MOVE_SIZE - 1, MOVE_SIZE, MOVE_SIZE + 1, MOVE_SIZE, 0
+    rooms = {number: cycle(sizes) for number in (0, *OF_SIGHTED_MOVES)}
+    for sighting, target in asked:
+        answer = crest.sighting_stake_out(sighting, target)
+        text = f"{sighting_text(sighting)} {point_text(target)}"
+        moves.append(Case(f"sightedMove {text}", move_text(answer)))
+        papers.append(Case(f"paperAfter [] (sightedMoveQuestion {text})", paper_text(*answer)))
+        room = random_bytes(rng, next(rooms[answer.number]))
+        value, after = crest.crest_sighting_stake_out(*sighting, *target, room)
+        calls.append(Case(f"sightingStakeOutCall {text} {spelt(room)}", f"({value}, {spelt(after)})"))
+    for number in rooms:
+        assert sum(case.due.startswith(f"(paper {number} ") for case in papers) >= len(sizes), number
+    return [
+        Table("moves", "Move", "answerAfter sightedMoveQuestion", moves),
+        Table("move-papers", "PaperAnswer", "paperAfter sightedMoveQuestion", papers[1::3]),
+        Table("move-calls", "ℕ × List ℕ", "sightingStakeOutCall", calls),
+    ]
+
+
+class Held(NamedTuple):
+    """A crest as an argument, and what a check says of it."""
+
+    text: str
+    said: object
+
+
+def sound(named):
+    """The crest of an alignment, with no rules to pass."""
+    return Held(f"(crest [] {named.name})", named.alignment)
+
+
+def any_rules(rng, named):
+    """The crest of an alignment with any rules, or with none."""
+    rules, refusal = random_rules(rng, OWN)
+    return rng.choice((sound(named), Held(f"(crest {rules} {named.name})", refusal or named.alignment)))
+
+
+def run_data(rng, number):
+    """A run's bytes: of four the second has another length, the last is full, and the others count."""
+    if number % 4 == 1:
+        return random_bytes(rng, rng.choice((0, MOVE_SIZE, RUN_SIZE - 1, RUN_SIZE + 1)))
+    state = random_run(rng)
+    if number % 4 == 3:
+        state = state._replace(answered=30_000, refused=MOST_COUNTED - 30_000)
+    return crest.bytes_of_run(state)
+
+
+def call_told(came, data):
+    """(returned value, run's bytes afterwards) of a call with an observation that comes to an outcome."""
+    if len(data) != RUN_SIZE:
+        return crest.c_value(18), data
+    outcome, after = reading_told(crest.run_of(data), came)
+    return crest.c_value(outcome.number, outcome.place), crest.bytes_of_run(after)
+
+
+def sightings_on_crests(rng, named):
+    """(crest, sighting): points on the limits of 11 to 14, each set of faults, also after the crest's own, and any."""
+    straight, *others = named
+    asked = [(sound(straight), from_inside(rng, point)) for point in LIMIT_POINTS[::3]]
+    asked += [(sound(rng.choice(others)), faulty(rng, faults)) for faults in FAULT_SETS]
+    asked += [(any_rules(rng, straight), faulty(rng, faults)) for faults in FAULT_SETS[::2]]
+    asked += [(any_rules(rng, one), random_sighting(rng, one.alignment)) for one in others * 3]
+    rng.shuffle(asked)
+    return asked
+
+
+def sighted_answers(rng, named):
+    """The answer of a sighting on a crest, its paper, its display pair, and calls with it."""
+    answered, papers, displays, calls, met, returned = [], [], [], [], Counter(), set()
+    for held, sighting in sightings_on_crests(rng, named):
+        answer = crest.sighting_answer(held.said, sighting)
+        text, asked = sighting_text(sighting), f"sightedTo {held.text} {sighting_text(sighting)}"
+        answered.append(Case(asked, answer_text(sighting, answer)))
+        turn = met[answer.number]
+        met[answer.number] += 1
+        if turn % 2 == 0:
+            data = run_data(rng, turn // 2)
+            value, after = call_told(answer, data)
+            returned.add((value % PLACE_UNIT, answer.number > 0))
+            calls.append(Case(f"readingCall ({asked}) {spelt(data)}", f"({value}, {spelt(after)})"))
+        elif turn % 4 == 1:
+            papers.append(Case(asked_paper(f"sightingQuestion {text}", held.text), reading_paper(sighting, answer)))
+        else:
+            displays.append(Case(f"displayOf ({asked})", display_text(answer.display)))
+    counted = {(0, False), *((number, True) for number in OF_SIGHTINGS)}
+    assert returned == counted | {(number, refused) for number in (16, 18) for refused in (False, True)}, returned
+    return [
+        Table("answers", "ReadingAnswer", SIGHTED, answered, 20),
+        Table("papers", "PaperAnswer", "paperAfter sightingQuestion", papers, 10),
+        Table("displays", "Display", f"displayOf ofInt div ofBits {SIGHTED}", displays, 10),
+        Table("answer-calls", "ℕ × List ℕ", f"readingCall {SIGHTED}", calls, 20),
+    ]
+
+
+def observed_answers(rng, named):
+    """A reading or a sighting, on elements and on a crest."""
+    sighted_on, observed_on, observed, papers, counts = [], [], [], [], []
+    for number in range(60):
+        one = named[number % len(named)]
+        reading = rng.choice((some_reading, random_sighting))(rng, one.alignment)
+        text, answer = observation_text(reading), crest.reading_answer(one.alignment, reading)
+        asked = f"answerOf (observedQuestion {text} {one.name})"
+        observed_on.append(Case(asked, answer_text(reading, answer)))
+        counts.append(Case(f"observedCount {text}", str(len(values_of(reading, answer)))))
+        if isinstance(reading, Sighting):
+            asked = f"sightedOn {one.name} {sighting_text(reading)}"
+            sighted_on.append(Case(asked, answer_text(reading, answer)))
+        held = any_rules(rng, one)
+        answer = crest.reading_answer(held.said, reading)
+        observed.append(Case(f"observedTo {held.text} {text}", answer_text(reading, answer)))
+        asked = asked_paper(f"observedQuestion {text}", held.text)
+        papers.append(Case(asked, reading_paper(reading, answer)))
+    tables = [
+        Table("observed", "ReadingAnswer", OBSERVED, observed, 10),
+        Table("observed-on", "ReadingAnswer", OBSERVED, observed_on[::2], 10),
+        Table("observed-papers", "PaperAnswer", "paperAfter observedQuestion ofBits", papers[1::2], 10),
+        Table("observed-counts", "ℕ", "observedCount ofBits", counts[::2]),
+    ]
+    for table in tables:  # both sorts, also where every third is left
+        sorts = Counter("Sighted" in case.asked for case in table.cases[::3])
+        assert min(sorts[True], sorts[False]) >= 2, (table.name, sorts)
+    return [Table("answers-on", "ReadingAnswer", SIGHTED, sighted_on, 10), *tables]
+
+
+def sightings_on_files(rng):
+    """Answers on crest files, and calls as the reference has them."""
+    answered, calls = [], []
+    for number in range(16):
+        file, alignment = short_crest(rng)
+        sighting = random_sighting(rng, alignment)
+        asked = f"sightedTo {file_crest(file)} {sighting_text(sighting)}"
+        answered.append(Case(asked, answer_text(sighting, crest.sighting_answer(crest.check(file), sighting))))
+        data = run_data(rng, number // 2)
+        value, after = crest.crest_sighting_reading(file, *sighting, data)
+        calls.append(Case(f"readingCall ({asked}) {spelt(data)}", f"({value}, {spelt(after)})"))
+    return [
+        Table("file-answers", "ReadingAnswer", f"{SIGHTED} {FILE_CREST}", answered[::2], 5),
+        Table("file-calls", "ℕ × List ℕ", f"readingCall {SIGHTED} {FILE_CREST}", calls[1::2], 5),
+    ]
+
+
+def sighted_calls(rng, named):
+    """Calls with sightings and readings on one crest."""
+    held, calls = sound(named), []
+    for _ in range(rng.randint(1, 5)):
+        reading = rng.choice((random_sighting, random_sighting, some_reading))(rng, named.alignment)
+        text = f"read (observedTo {held.text} {observation_text(reading)})"
+        call = Call(crest.reading_answer(held.said, reading), text)
+        calls.append(ACKNOWLEDGE if rng.randrange(4) == 0 else call)
+    return calls
+
+
+class Told(NamedTuple):
+    """A definition that tells false rules from the right ones: what is asked of a sighting and a target, and what is
+    due by what a rule makes of the sighting."""
+
+    name: str
+    type: str
+    unfolding: str
+    asked: Callable
+    due: Callable
+
+
+def answer_by(found):
+    """The answer on BRIEF by what a rule makes of a sighting."""
+    observation = sighting_vectors.observation_of(found)
+    return answer_text(observation, crest.reading_answer(BRIEF.alignment, observation))
+
+
+TOLD = (
+    Told(
+        *("turned", "Point", "turnedOf"),
+        lambda sighting, target: f"turnedOf {sighting_text(sighting)}",
+        lambda found, target: point_text([-n for n in found.heading]),
+    ),
+    Told(
+        *("points", "Point", "sightedOf"),
+        lambda sighting, target: f"sightedOf {sighting_text(sighting)}",
+        lambda found, target: point_text(found.point),
+    ),
+    Told(
+        *("own-refusals", "Outcome", "verdict sightRules"),
+        lambda sighting, target: f"verdict (sightRules {sighting_text(sighting)})",
+        lambda found, target: outcome_text(Refusal(found.number, 0) if found.number else None),
+    ),
+    Told(
+        *("moves", "Move", "answerAfter sightedMoveQuestion"),
+        lambda sighting, target: f"sightedMove {sighting_text(sighting)} {point_text(target)}",
+        lambda found, target: move_text(sighting_vectors.move_of(found, target)),
+    ),
+    Told(
+        *("answers", "ReadingAnswer", SIGHTED),
+        lambda sighting, target: f"sightedTo {sound(BRIEF).text} {sighting_text(sighting)}",
+        lambda found, target: answer_by(found),
+    ),
+)
+
+
+def by_false_rules(rng):
+    """Of each false rule and each definition that tells it from the right ones, the first sighting that does."""
+    drawn = [random_sighting(rng, BRIEF.alignment) for _ in range(600)]
+    drawn = [(sighting, random_target(rng, sighting)) for sighting in drawn]
+    tables, telling = [], set()
+    for rule, made_of in sighting_vectors.FALSE_RULES.items():
+        words = rule.replace(" ", "-").replace("'", "")
+        for told in TOLD:
+            for sighting, target in drawn:
+                right, wrong = sighting_vectors.seen(sighting), made_of(sighting)
+                if wrong != right and told.due(wrong, target) != told.due(right, target):
+                    case = Case(told.asked(sighting, target), told.due(wrong, target))
+                    tables.append(Table(f"{told.name}-{words}", told.type, told.unfolding, [case]))
+                    telling.add((rule, told.name))
+                    break
+    for rule in sighting_vectors.FALSE_RULES:
+        assert (rule, "moves") in telling, rule
+        assert rule in sighting_vectors.OF_MOVES or (rule, "answers") in telling, rule
+    return tables
+
+
+def moved(sighting, target, room):
+    """The room with a sighting's move, whether it is refused or not."""
+    e, f = crest.turned_direction(sighting)
+    values = crest.forward_and_left(crest.sighted_point(sighting), target, (-e, -f))
+    return crest.with_fields(room, crest.MOVE_FIELDS, values)
+
+
+def false_moves(rng):
+    """Refused moves that change the room, and 18 not given or given too late."""
+    tables = []
+
+    def add(name, sighting, target, room, value, after):
+        assert crest.crest_sighting_stake_out(*sighting, *target, room) != (value, after), name
+        asked = f"sightingStakeOutCall {sighting_text(sighting)} {point_text(target)} {spelt(room)}"
+        case = Case(asked, f"({value}, {spelt(after)})")
+        tables.append(Table(f"move-calls-{name}", "ℕ × List ℕ", "sightingStakeOutCall", [case]))
+
+    def some_room(size):
+        return bytes(rng.randint(1, 255) for _ in range(size))
+
+    for fault in (*FAULTS, "target"):
+        of_target = fault == "target"
+        sighting = faulty(rng, () if of_target else (fault,))
+        target = on_the_rim(rng, anywhere(rng), 1 if of_target else 0)
+        room = some_room(MOVE_SIZE)
+        number = crest.sighting_stake_out(sighting, target).number
+        add(f"{fault}-refused-with-zeros", sighting, target, room, number, bytes(MOVE_SIZE))
+        if fault not in FAULTS[:2]:  # with a pair that is no unit a move may not fit i32
+            add(f"{fault}-refused-but-written", sighting, target, room, number, moved(sighting, target, room))
+    for size in (MOVE_SIZE - 1, MOVE_SIZE + 1, 0):
+        target, room = anywhere(rng), some_room(size)
+        sighting = faulty(rng, ())
+        written = moved(sighting, target, room.ljust(MOVE_SIZE, b"\0"))[:size]
+        add(f"room-of-{size}-written", sighting, target, room, 0, written)
+        add(f"room-of-{size}-after-11", faulty(rng, ("place",)), target, room, 11, room)
+    return tables
+
+
+def false_readings(rng):
+    """On runs: 18 and 16 not given or given too late, and sightings that are not counted."""
+    tables = []
+
+    def add(name, point, data, value, after):
+        sighting = from_inside(rng, point)
+        came = crest.sighting_answer(BRIEF.alignment, sighting)
+        assert call_told(came, data) != (value, after), name
+        asked = f"readingCall (sightedTo {sound(BRIEF).text} {sighting_text(sighting)}) {spelt(data)}"
+        case = Case(asked, f"({value}, {spelt(after)})")
+        tables.append(Table(f"answer-calls-{name}", "ℕ × List ℕ", f"readingCall {SIGHTED}", [case]))
+
+    near, far = (GRAINS, 700), (GRAINS, FAR + 1)
+    answer, refusal = (crest.plane_outcome(BRIEF.alignment, *point) for point in (near, far))
+    assert (answer.number, refusal.number) == (0, 12)
+    full = crest.Run(answered=30_000, refused=MOST_COUNTED - 30_000)
+    fresh_bytes, full_bytes = map(crest.bytes_of_run, (crest.FRESH, full))
+    short, long = fresh_bytes[:-1], fresh_bytes + b"\0"
+    counted, counted_12 = (crest.bytes_of_run(crest.run_after(crest.FRESH, came)) for came in (answer, refusal))
+    three = crest.ONE_AT  # where the latest three begin
+    add("full-run-counts", near, full_bytes, 0, crest.bytes_of_run(crest.run_after(full, answer)))
+    add("full-run-written", near, full_bytes, 16, crest.bytes_of_run(full._replace(latest=16)))
+    add("full-run-after-12", far, full_bytes, 12, full_bytes)
+    add("short-run-counts", near, short, 0, counted[:-1])
+    add("short-run-after-12", far, short, 12, short)
+    add("long-run-counts", near, long, 0, counted + b"\0")
+    add("answer-not-counted", near, fresh_bytes, 0, fresh_bytes)
+    add("refusal-not-counted", far, fresh_bytes, 12, fresh_bytes)
+    add("refusal-with-numbers", far, fresh_bytes, 12, counted_12[:three] + counted[three:])
+    return tables
+
+
+def sightings(rng):
+    named = [STRAIGHT, *named_alignments(rng, [short_wish(rng, 24) for _ in range(16)])]
+    shortest = sorted(named, key=lambda one: one.alignment.total)[:6]
+    tables = [
+        *sightings_alone(rng),
+        *sighted_moves(rng),
+        *sighted_answers(rng, named),
+        *observed_answers(rng, named),
+        *sightings_on_files(rng),
+        *history_tables(rng, "sightings", [sighted_calls(rng, one) for one in shortest], OBSERVED, 3),
+    ]
+    uses = (
+        *ELEMENT_USES,
+        *OUTCOME_USES,
+        *PLACED_USES,
+        *READING_USES,
+        *ANSWER_USES,
+        *FILE_CREST_USES,
+        "declared.Move.{Move}",
+        "declared.Move.the-variants.{By, Refused as MoveRefused}",
+        "declared.Display.{Display}",
+        "declared.Run.{Run}",
+        "declared.Sighting.{Sighting}",
+        "declared.Observation.the-variants.{Read, Sighted}",
+        "lib.Ieee.{ofBits, ofInt, div}",
+        f"Refusals.{{Rule, rule, verdict, {', '.join(REASONS[: len(OWN)])}}}",
+        "Crest.{Crest}",
+        "Answers.{PaperAnswer, answerOf, answerAfter, paperAfter, askedPaper}",
+        "Readings.{displayOf}",
+        "Sightings.{turnedOf, sightedOf, isSight, sightRules, sightQuestion, sightingQuestion, sightedOn, sightedTo}",
+        "Sightings.{observedQuestion, observedTo, observedCount, sightedMoveQuestion, sightedMove}",
+        "Run.{Shown, fresh}",
+        "Calls.{sightingOf, sightingStakeOutCall, readingCall}",
+        "Histories.{Call, read, acknowledge, afterCalls, bytesAfterCalls, freshBytes, demanded}",
+        "Histories.{Event, came, acknowledgement, eventOf}",
+    )
+    before = PAPER_FORM, SHOWN_FORM, CREST_FORM, *shown([BRIEF, *named])
+    false = *by_false_rules(rng), *false_moves(rng), *false_readings(rng)
+    return Chapter(16, "Sightings", uses, tables, before, false=false)
+
+
 MAKERS = (
     rounding,
     records,
@@ -1906,6 +2344,7 @@ MAKERS = (
     refusals,
     program,
     any_crest,
+    sightings,
 )
 
 
@@ -1985,8 +2424,9 @@ def errors_in(text, most=12):
 
 
 def false_tables(chapter):
-    """Two cases of each table with their expected values exchanged; a table that expects one value only has none."""
-    found = []
+    """The chapter's own, and two cases of each table with their expected values exchanged; a table that expects one
+    value only has none."""
+    found = [table._replace(name=f"false-{table.name}") for table in chapter.false]
     for table in chapter.tables:
         one = table.cases[0]
         other = next((case for case in table.cases if case.due != one.due), None)

@@ -1,17 +1,22 @@
-"""Vectors for the program comparisons: f64 numbers as whole numbers, run records after histories of calls, and display pairs."""
+"""Vectors for the program comparisons: f64 numbers as whole numbers, run records after histories of calls, and display pairs.
+
+sighting_vectors.py has its histories and display pairs made here too.
+"""
 
 import random
-from functools import cache
+from functools import cache, partial
 from math import isqrt
+from typing import NamedTuple
 
 import crest
 from crest import (
     ARC, BLOCK_SIZE, DISPLAY_GRAINS, EDITION, EDITION_AT, ENTRY, EXIT, FRAME, LAST_NUMBER, LONGEST_ALIGNMENT,
     LONGEST_ELEMENT, MOST_COUNTED, MOST_RECORDS, ONE, ONE_AT, PER_BLOCK, RUN_FIELDS, RUN_SIZE, UNIT_SQUARE, WIDEST_GAP,
-    WIDEST_KINK, WIDEST_OFFSET, Element, f64_bits, with_fields,
+    WIDEST_KINK, WIDEST_OFFSET, Element, LinePlace, PlanePoint, Sighting, f64_bits, with_fields,
 )  # fmt: skip
 from plain_files import altered, file_refusal, line, lines, patched, raw_file
 from random_crests import Wish, half_directions, random_file, random_point
+from random_sightings import random_sighting
 from rows import CALL, DISPLAY, LENT, NOTE, NOWHERE, NUMBER, STORE
 
 LARGE = 2**62
@@ -23,11 +28,12 @@ ODD = (0.5, -0.5, 1.5, 5e-324, 2.2250738585072014e-308, 1e300, -1e300, 2.0**53, 
 
 CRESTS = 32
 SLOT = STORE // CRESTS
-HISTORIES = 500
-HISTORIES_BY_VALUE = 100
-DISPLAYS = 20  # on each crest
+SEED = 8
 ROOM = 32
-PLANE, LINE_PLACE, ACKNOWLEDGE = 0, 1, 2
+OTHER_SIZES = 0, 1, RUN_SIZE - 2, RUN_SIZE - 1, RUN_SIZE + 1, RUN_SIZE + 2, ROOM - 1, ROOM
+SORTS = PLANE, LINE_PLACE, ACKNOWLEDGE, SIGHTED = range(4)
+NO_NUMBERS = 0, 0
+NO_SIGHTING = (0,) * len(Sighting._fields)
 NO_ANSWER, PLANE_POINT, PLACE, REFUSED = range(4)
 
 # ---------------------------------------------------------------------------
@@ -132,8 +138,24 @@ def crests(rng):
         yield raw_file(row[:record] + [row[record]._replace(**change)] + row[record + 1 :])
 
 
+def laid_crests(rows, rng):
+    """The crests, and the parts of the store in which they lie."""
+    crest.check = cache(crest.check)  # the same few crests throughout
+    files = list(crests(rng))
+    found = [file_refusal(file)[0] for file in files]
+    assert set(found) == set(range(10)), found
+    assert len(files) == CRESTS
+    return files, [rows.lay(file, SLOT * number) for number, file in enumerate(files)]
+
+
+def accepted(file):
+    """The alignment of a file, or None where the file is refused."""
+    found = crest.check(file)
+    return None if isinstance(found, crest.Refusal) else found
+
+
 # ---------------------------------------------------------------------------
-# Histories
+# What is asked, and the run before it
 
 
 def odd_number(rng):
@@ -192,109 +214,157 @@ def beginning(rng):
     return run + rng.randbytes(ROOM - len(run))
 
 
-def reading(rng, sort, alignment):
-    """The bits of a reading's two numbers."""
-    return plane_numbers(rng, alignment) if sort == PLANE else line_numbers(rng, alignment)
-
-
-def accepted(file):
-    """The alignment of a file, or None where the file is refused."""
-    found = crest.check(file)
-    return None if isinstance(found, crest.Refusal) else found
-
-
-def call(rng, files, few, state):
-    """A call with one of a few crests on the run in these bytes: the crest's number, and the row's values."""
-    sort = rng.choices((PLANE, LINE_PLACE, ACKNOWLEDGE), (45, 38, 17))[0]
-    number = rng.choice(few)
-    others = 0, 1, RUN_SIZE - 2, RUN_SIZE - 1, RUN_SIZE + 1, RUN_SIZE + 2, ROOM - 1, ROOM
-    lent = RUN_SIZE if rng.randrange(16) else rng.choice(others)
-    file = files[number]
+def observed(rng, sort, alignment):
+    """A reading or a sighting, or None for an acknowledgement."""
     if sort == ACKNOWLEDGE:
-        one = two = number = 0
+        return None
+    if sort == SIGHTED:
+        return random_sighting(rng, alignment)
+    return PlanePoint(*plane_numbers(rng, alignment)) if sort == PLANE else LinePlace(*line_numbers(rng, alignment))
+
+
+def asked(observation):
+    """The bits of both f64 numbers, and the sighting."""
+    if isinstance(observation, Sighting):
+        return NO_NUMBERS, observation
+    return observation or NO_NUMBERS, NO_SIGHTING
+
+
+# ---------------------------------------------------------------------------
+# A row's values. It asks for an observation and says what the one that is taken comes to; a right row takes the same.
+
+
+def call_values(file, sort, lent, state, observation, taken):
+    """A call on the run in these bytes, of which so many are lent."""
+    if sort == ACKNOWLEDGE:
         value, run = crest.crest_acknowledge(state[:lent])
     else:
-        one, two = reading(rng, sort, accepted(file))
-        take = crest.crest_plane_reading if sort == PLANE else crest.crest_line_reading
-        value, run = take(file, one, two, state[:lent])
+        value, run = crest.c_reading(file, taken, state[:lent])
     assert len(run) == lent
-    return number, (sort, lent, value, one, two, run + state[lent:])
-
-
-def came(file, sort, one, two, run):
-    """What a reading on a run by value comes to, and the run afterwards."""
-    made = crest.PlanePoint if sort == PLANE else crest.LinePlace
-    return crest.take_reading(run, crest.check(file), made(one, two))
+    numbers, sighting = asked(observation)
+    return sort, lent, value, *numbers, run + state[lent:], *sighting
 
 
 def bits_of_pair(pair):
     return tuple(map(f64_bits, pair))
 
 
-def call_by_value(rng, files, few, run):
-    """A call with one of a few crests on this run: the crest's number, the row's values, and the run afterwards."""
-    sort = rng.choices((PLANE, LINE_PLACE, ACKNOWLEDGE), (45, 38, 17))[0]
-    number = rng.choice(few)
+def note_values(file, sort, run, observation, taken):
+    """A call on this run by value."""
     if sort == ACKNOWLEDGE:
-        one = two = number = 0
         case, answer, run = NO_ANSWER, crest.ReadingAnswer(0, 0), crest.acknowledged(run)
     else:
-        one, two = reading(rng, sort, accepted(files[number]))
-        answer, run = came(files[number], sort, one, two, run)
-        case = REFUSED if answer.number else PLANE_POINT if sort == PLANE else PLACE
-    head = sort, case, answer.number, answer.place, one, two, *answer.three, answer.count, crest.bytes_of_run(run)
-    return number, head, bits_of_pair(answer.display), run
+        answer, run = crest.take_reading(run, crest.check(file), taken)
+        case = REFUSED if answer.number else PLACE if sort == LINE_PLACE else PLANE_POINT
+    numbers, sighting = asked(observation)
+    head = sort, case, answer.number, answer.place, *numbers, *answer.three, answer.count, crest.bytes_of_run(run)
+    return *head, *bits_of_pair(answer.display), *sighting
 
 
-def add_histories(rows, rng, files, parts):
-    for number in range(HISTORIES):
-        state = beginning(rng)
+def lent_values(file, sort, run, observation, taken):
+    """The same without the display pair."""
+    values = note_values(file, sort, run, observation, taken)
+    return values[:11] + values[13:]
+
+
+def display_values(file, sort, observation, taken):
+    answer = crest.reading_answer(crest.check(file), taken)
+    numbers, sighting = asked(observation)
+    return sort, *numbers, *bits_of_pair(answer.display), *sighting
+
+
+# ---------------------------------------------------------------------------
+# Histories and display pairs
+
+
+class Plan(NamedTuple):
+    """How histories and display pairs are made."""
+
+    files: list  # the crests
+    parts: list  # where they lie
+    mix: tuple  # how often each sort of call comes
+    histories: int  # of calls
+    by_value: int  # of calls by value, and again in place
+    displays: tuple  # sorts of the display pairs on each crest
+    to_an_odd_run: int = 1  # histories to one whose run need not be fresh at first
+    before: object = None  # called before the row of an observation is added
+
+    def beginning(self, rng, number):
+        """The run's bytes at the beginning of a history."""
+        return beginning(rng) if number % self.to_an_odd_run == 0 else bytes(RUN_SIZE) + rng.randbytes(ROOM - RUN_SIZE)
+
+    def few(self, rng):
+        """Numbers of crests for a history."""
+        return rng.sample(range(len(self.files)), rng.randint(1, 6))
+
+    def drawn(self, rng, few):
+        """The sort of a call, and its crest's number."""
+        sort = rng.choices(SORTS, self.mix)[0]
+        number = rng.choice(few)
+        return sort, 0 if sort == ACKNOWLEDGE else number
+
+    def add(self, rows, sort, number, observation, values_of):
+        """The right row, whose values are given."""
+        values = values_of(observation)
+        if self.before:
+            self.before(rows, sort, self.parts[number], observation, values, values_of)
+        rows.add(sort, self.parts[number], *values)
+        return values
+
+
+def add_histories(rows, rng, plan):
+    for number in range(plan.histories):
+        state = plan.beginning(rng, number)
         rows.begin(state)
-        few = rng.sample(range(len(files)), rng.randint(1, 6))
+        few = plan.few(rng)
         for _ in range(1 + number % 40):
-            crest_number, values = call(rng, files, few, state)
-            rows.add(CALL, parts[crest_number], *values)
-            state = values[-1]
+            sort, chosen = plan.drawn(rng, few)
+            lent = RUN_SIZE if rng.randrange(16) else rng.choice(OTHER_SIZES)
+            file = plan.files[chosen]
+            observation = observed(rng, sort, accepted(file))
+            values_of = partial(call_values, file, sort, lent, state, observation)
+            state = plan.add(rows, CALL, chosen, observation, values_of)[5]
 
 
-def add_histories_by_value(rows, rng, files, parts):
+def add_histories_by_value(rows, rng, plan):
     """Each history on a run by value, and again on one that is lent."""
     met = set()
-    for number in range(HISTORIES_BY_VALUE):
-        state = beginning(rng)
+    for number in range(plan.by_value):
+        state = plan.beginning(rng, number)
         run = crest.run_of(state[:RUN_SIZE])._replace(spare=0)
-        few = rng.sample(range(len(files)), rng.randint(1, 6))
+        few = plan.few(rng)
         history = []
+        rows.begin(state)
         for _ in range(1 + number % 25):
-            crest_number, head, shown, run = call_by_value(rng, files, few, run)
-            history.append((parts[crest_number], head, shown))
-            met.add(head[2])
+            sort, chosen = plan.drawn(rng, few)
+            file = plan.files[chosen]
+            observation = observed(rng, sort, accepted(file))
+            values = plan.add(rows, NOTE, chosen, observation, partial(note_values, file, sort, run, observation))
+            history.append((chosen, observation, partial(lent_values, file, sort, run, observation)))
+            met.add(values[2])
+            run = crest.run_of(values[10])
         rows.begin(state)
-        for part, head, shown in history:
-            rows.add(NOTE, part, *head, *shown)
-        rows.begin(state)
-        for part, head, _ in history:
-            rows.add(LENT, part, *head)
+        for chosen, observation, values_of in history:
+            plan.add(rows, LENT, chosen, observation, values_of)
     assert met == set(range(17)), met
 
 
-def add_displays(rows, rng, files, parts):
-    for file, part in zip(files, parts):
-        for number in range(DISPLAYS):
-            sort = PLANE if number % 4 else LINE_PLACE
-            one, two = reading(rng, sort, accepted(file))
-            answer, _ = came(file, sort, one, two, crest.FRESH)
-            rows.add(DISPLAY, part, sort, one, two, *bits_of_pair(answer.display))
+def add_displays(rows, rng, plan):
+    for number, file in enumerate(plan.files):
+        for sort in plan.displays:
+            observation = observed(rng, sort, accepted(file))
+            plan.add(rows, DISPLAY, number, observation, partial(display_values, file, sort, observation))
+
+
+def add_plan(rows, rng, plan):
+    for add in (add_histories, add_histories_by_value, add_displays):
+        add(rows, rng, plan)
 
 
 def add_rows(rows):
     add_numbers(rows)
-    rng = random.Random(8)
-    crest.check = cache(crest.check)  # the same few crests throughout
-    files = list(crests(rng))
-    found = [file_refusal(file)[0] for file in files]
-    assert set(found) == set(range(10)), found
-    assert len(files) == CRESTS
-    parts = [rows.lay(file, SLOT * number) for number, file in enumerate(files)]
-    for add in (add_histories, add_histories_by_value, add_displays):
-        add(rows, rng, files, parts)
+    rng = random.Random(SEED)
+    files, parts = laid_crests(rows, rng)
+    mix = 45, 38, 17, 0
+    displays = (LINE_PLACE, PLANE, PLANE, PLANE) * 5
+    add_plan(rows, rng, Plan(files, parts, mix, histories=500, by_value=100, displays=displays))

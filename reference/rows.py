@@ -10,16 +10,19 @@ store, u16 each, and then
              visits, u32
     NUMBER   the bits of an f64, u64; the whole number that it is, i64, where its size is below 2^62, else 2^62 with its
              sign for a larger one, and 2^63 − 1 where it is not finite or not whole
-    CALL     for the crest file in that part: sort of the call, u8 (0 plane reading, 1 line reading, 2 acknowledgement);
-             how many of the run's bytes are lent, u8; two zeros; the returned value, u32; the bits of both f64 numbers,
-             u64; the run's bytes afterwards
+    CALL     for the crest file in that part: sort of the call, u8 (0 plane reading, 1 line reading, 2 acknowledgement, 3
+             sighting); how many of the run's bytes are lent, u8; two zeros; the returned value, u32; the bits of both f64
+             numbers, u64, zeros where there are none; the run's bytes afterwards; the sighting's seven numbers, i32, zeros
+             where there is none
     NOTE     for the crest file in that part and the run by value: sort of the call, u8, as above; case of the answer, u8 (0
-             none, 1 plane point, 2 line place, 3 refused); refusal number and place, u16; two zeros; the bits of both f64
-             numbers, u64; station, offset, residual and visits, or X, Y and zeros, or zeros, i64; the run's 24 bytes
-             afterwards; the bits of the display pair, u64
-    LENT     the same on the run lent in place, without the display pair
+             none, 1 plane point, also of a sighting, 2 line place, 3 refused); refusal number and place, u16; two zeros; the
+             bits of both f64 numbers, u64; station, offset, residual and visits, or X, Y and zeros, or zeros, i64; the run's
+             24 bytes afterwards; the bits of the display pair, u64; the sighting
+    LENT     the same on the run lent in place, with zeros for the display pair
     DISPLAY  for the crest file in that part: sort of the reading, u8, as above; seven zeros; the bits of both f64 numbers
-             and of the display pair, u64
+             and of the display pair, u64; the sighting
+    MOVE     of a sighting: refusal number, u32 (0 for a move); four zeros; forward and left, i64, zeros where refused; the
+             sighting; the target's x and y, i32
     BYTES    what that part is to hold from now on
     RUN      what the run's bytes are to be from now on; the run by value is what the first 24 spell
 
@@ -27,12 +30,13 @@ All little-endian. The part is empty where a row has no use for one.
 
 A wrong row is a right one with one bit changed in what it says, so that a comparison that does not look there is found out: some
 of the right rows come after such a copy of themselves. The bits are taken in turn, and each of a sort is changed at least once.
+Other wrong rows ask what a right one asks and say what a false rule comes to.
 """
 
 from collections import Counter
 from struct import Struct
 
-ELEMENT, FILE, POINT, NUMBER, CALL, NOTE, LENT, DISPLAY, BYTES, RUN = range(1, 11)
+ELEMENT, FILE, POINT, NUMBER, CALL, NOTE, LENT, DISPLAY, MOVE, BYTES, RUN = range(1, 12)
 COUNT = Struct("<I")
 HEAD = Struct("<BBHH")
 LAYOUT = {
@@ -40,10 +44,11 @@ LAYOUT = {
     FILE: Struct("<HH"),
     POINT: Struct("<qqqqIII"),
     NUMBER: Struct("<Qq"),
-    CALL: Struct("<BBxxIQQ32s"),
-    NOTE: Struct("<BBHHxxQQqqqq24sQQ"),
-    LENT: Struct("<BBHHxxQQqqqq24s"),
-    DISPLAY: Struct("<BxxxxxxxQQQQ"),
+    CALL: Struct("<BBxxIQQ32s7i"),
+    NOTE: Struct("<BBHHxxQQqqqq24sQQ7i"),
+    LENT: Struct("<BBHHxxQQqqqq24s16x7i"),
+    DISPLAY: Struct("<BxxxxxxxQQQQ7i"),
+    MOVE: Struct("<Ixxxxqq7iii"),
     RUN: Struct("<32s"),
 }
 STORE = 65_536
@@ -57,6 +62,7 @@ NAMES = {
     NOTE: "calls by value",
     LENT: "calls in place",
     DISPLAY: "display pairs",
+    MOVE: "sighted moves",
 }
 
 # What a row says, and not what it asks, by the starts and ends of its bytes; and how many right rows there are to a wrong one.
@@ -69,8 +75,9 @@ SAID = {
     NOTE: ((1, 6), (24, 96)),
     LENT: ((1, 6), (24, 80)),
     DISPLAY: ((24, 40),),
+    MOVE: ((0, 4), (8, 24)),
 }
-TO_A_WRONG_ONE = {ELEMENT: 20, FILE: 20, POINT: 8, NUMBER: 50, CALL: 20, NOTE: 2, LENT: 2, DISPLAY: 5}
+TO_A_WRONG_ONE = {ELEMENT: 20, FILE: 20, POINT: 8, NUMBER: 50, CALL: 20, NOTE: 2, LENT: 2, DISPLAY: 5, MOVE: 8}
 RUN_AFTER = {CALL: (24, 56), NOTE: (56, 80), LENT: (56, 80)}
 
 
@@ -98,6 +105,7 @@ class Rows:
         self.run = bytes(LAYOUT[RUN].size)
         self.right = Counter()
         self.wrong = Counter()
+        self.changed = Counter()  # the wrong ones with a bit changed
 
     def put(self, sort, part, row, wrong=False):
         self.rows.append(HEAD.pack(sort, wrong, *part) + row)
@@ -115,19 +123,28 @@ class Rows:
         self.put(RUN, NOWHERE, LAYOUT[RUN].pack(run))
         self.run = run
 
-    def add_wrong(self, sort, part, row):
-        """The row with the next bit changed, after which the run is what it was."""
-        bits = bits_said(sort)
-        at, bit = bits[self.wrong[sort] % len(bits)]
-        self.put(sort, part, row[:at] + bytes([row[at] ^ 1 << bit]) + row[at + 1 :], wrong=True)
+    def put_wrong(self, sort, part, row):
+        """A wrong row, after which the run is what it was."""
+        self.put(sort, part, row, wrong=True)
         self.wrong[sort] += 1
         if sort in RUN_AFTER:
             self.begin(self.run)
 
+    def add_changed(self, sort, part, row):
+        """The row with the next bit changed."""
+        bits = bits_said(sort)
+        at, bit = bits[self.changed[sort] % len(bits)]
+        self.put_wrong(sort, part, row[:at] + bytes([row[at] ^ 1 << bit]) + row[at + 1 :])
+        self.changed[sort] += 1
+
+    def add_false(self, sort, part, *values):
+        """A row of these values, which a false rule comes to."""
+        self.put_wrong(sort, part, LAYOUT[sort].pack(*values))
+
     def add(self, sort, part, *values):
         row = LAYOUT[sort].pack(*values)
         if self.right[sort] % TO_A_WRONG_ONE[sort] == 0:
-            self.add_wrong(sort, part, row)
+            self.add_changed(sort, part, row)
         self.put(sort, part, row)
         self.right[sort] += 1
         if sort in RUN_AFTER:
@@ -136,7 +153,7 @@ class Rows:
 
     def written(self):
         for sort in SAID:
-            assert self.wrong[sort] >= len(bits_said(sort)), NAMES[sort]
+            assert self.changed[sort] >= len(bits_said(sort)), NAMES[sort]
         return COUNT.pack(len(self.rows)) + b"".join(self.rows)
 
     def told(self):

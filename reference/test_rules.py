@@ -1,24 +1,25 @@
-"""Tests of the reference against document 01: every refusal at its limit and one beyond, places, orders,
-rounding, f64 cases, run histories, round trips, the 2-grain bound.
+"""Tests of the reference against documents 01 and 02: every refusal at its limit and one beyond, places, orders,
+rounding, f64 cases, sightings, run histories, round trips, the 2-grain bound.
 """
 
 import random
 import struct
 import unittest
 from fractions import Fraction
-from math import isqrt
+from math import floor, isqrt
 
 import crest
 from crest import (
     ARC, BLOCK_SIZE, BLOCK_ZEROS, EDITION, EDITION_AT, ENTRY, EXIT, FIELDS_AT, FILE_SIZES, FIRST_STEP, FRAME, GRAINS,
-    KIND_AT, LINE, LONGEST_ALIGNMENT, LONGEST_ELEMENT, MOST_COUNTED, MOST_RECORDS, MOVE_SIZE, ONE, PAST_END, PER_BLOCK,
-    PLACE_UNIT, READING_SIZE, RECORD_LENGTH_AT, RECORD_SIZE, RECORDS_END, RESERVED, RUN_FIELDS, RUN_SIZE, STEP_DIVISOR,
-    SUM_B_AT, SUM_MODULUS, SUMS_AT, UNIT_SLACK, UNIT_SQUARE, USED_AT, WIDEST, WIDEST_GAP, WIDEST_KINK, WIDEST_OFFSET,
-    ZEROS_AT, Element, blocks_needed, f64_bits, least_radius, near, with_fields,
+    KIND_AT, LINE, LONGEST_ALIGNMENT, LONGEST_ELEMENT, LONGEST_SIGHT, MOST_COUNTED, MOST_RECORDS, MOVE_SIZE, ONE,
+    PAST_END, PER_BLOCK, PLACE_UNIT, READING_SIZE, RECORD_LENGTH_AT, RECORD_SIZE, RECORDS_END, RESERVED, RUN_FIELDS,
+    RUN_SIZE, STEP_DIVISOR, SUM_B_AT, SUM_MODULUS, SUMS_AT, UNIT_SLACK, UNIT_SQUARE, USED_AT, WIDEST, WIDEST_GAP,
+    WIDEST_KINK, WIDEST_OFFSET, ZEROS_AT, Element, Sighting, blocks_needed, f64_bits, least_radius, near, with_fields,
 )  # fmt: skip
 from examples import K, file_of
 from plain_files import altered, file_refusal, line, lines, patched, raw_file, records_of, refusal
 from random_crests import FAR, Wish, random_file, random_point, random_unit, unit_limit_pairs
+from random_sightings import GREATEST, LEAST, random_sighting, random_target
 
 NAN = 0x7FF8000000000000
 INFINITE = 0x7FF0000000000000
@@ -557,6 +558,265 @@ class Readings(unittest.TestCase):
         self.assertEqual(f64_bits(crest.display_pair(0, 7)[1]), f64_bits(0.07))
 
 
+EAST, NORTH, WEST, SOUTH = (ONE, 0), (0, ONE), (-ONE, 0), (0, -ONE)
+STRAIGHT, LEFT, BACK, RIGHT = EAST, NORTH, WEST, SOUTH  # angles
+HALF, REST = ONE // 2, 929_887_697  # a unit: a half, and the root of three quarters
+SHORT = (ONE - 1, 0)  # the shortest unit along x
+
+
+def sighted(place, backsight, angle, distance):
+    return Sighting(*place, *backsight, *angle, distance)
+
+
+def bad_crest():
+    """(file, number, place)"""
+    row = lines(20)
+    row[18] = row[18]._replace(length=0)
+    return raw_file(row), 6, 18
+
+
+class Sightings(unittest.TestCase):
+    def test_turned_direction_and_point(self):
+        three, four = 644_245_094, 858_993_459  # 3/5 and 4/5 of ONE, less 0.4 and 0.2
+        rows = [
+            ((EAST, LEFT, 300), NORTH, (1000, 2300)),
+            ((NORTH, LEFT, 300), WEST, (700, 2000)),
+            ((WEST, RIGHT, 300), NORTH, (1000, 2300)),
+            ((SOUTH, BACK, 300), NORTH, (1000, 2300)),
+            ((SOUTH, RIGHT, 300), WEST, (700, 2000)),
+            # c² − s² and 2cs: −7/25 and 24/25 of ONE, −300,647,710.72 and 1,030,792,151.04, less 0.16 and 0.88
+            (((three, four), (three, four), 25), (-300_647_711, 1_030_792_150), (993, 2024)),
+            # and turned back: c² + s² is ONE·(ONE − 0.8)
+            (((three, four), (three, -four), LONGEST_SIGHT), SHORT, (1000 + LONGEST_SIGHT, 2000)),
+        ]
+        for (backsight, angle, distance), direction, point in rows:
+            sighting = sighted((1000, 2000), backsight, angle, distance)
+            self.assertEqual(crest.turned_direction(sighting), direction)
+            self.assertEqual(crest.sighted_point(sighting), point)
+
+    def test_straight_along_the_backsight(self):
+        rng = random.Random(12)
+        for _ in range(200):
+            b, g = random_unit(rng)
+            distance = rng.randint(0, LONGEST_SIGHT)
+            sighting = sighted((-7, 5), (b, g), STRAIGHT, distance)
+            self.assertEqual(crest.turned_direction(sighting), (b, g))
+            self.assertEqual(crest.sighted_point(sighting), (-7 + near(distance * b, ONE), 5 + near(distance * g, ONE)))
+
+    def test_is_the_definition(self):
+        def rounded(fraction):
+            return floor(fraction + Fraction(1, 2))
+
+        rng = random.Random(13)
+        for _ in range(500):
+            x, y, b, g, a, h, d = sighting = random_sighting(rng)
+            e, f = rounded(Fraction(b * a - g * h, ONE)), rounded(Fraction(g * a + b * h, ONE))
+            self.assertEqual(crest.turned_direction(sighting), (e, f))
+            point = x + rounded(Fraction(d * e, ONE)), y + rounded(Fraction(d * f, ONE))
+            self.assertEqual(crest.sighted_point(sighting), point)
+
+    def test_halves_go_up(self):
+        self.assertTrue(crest.is_unit(HALF, REST))
+        # of the turned direction: HALF·(ONE − 1) is ONE·(HALF − 1/2)
+        for c, wanted in ((HALF, HALF), (-HALF, -HALF + 1)):
+            self.assertEqual(crest.turned_direction(sighted((0, 0), (c, REST), SHORT, 0)), (wanted, REST - 1))
+            self.assertEqual(crest.turned_direction(sighted((0, 0), SHORT, (c, REST), 0)), (wanted, REST - 1))
+            self.assertEqual(crest.turned_direction(sighted((0, 0), (REST, c), SHORT, 0)), (REST - 1, wanted))
+        # of the point
+        for c, distance, wanted in ((HALF, 1, 1), (HALF, 3, 2), (-HALF, 1, 0), (-HALF, 3, -1), (-HALF, 5, -2)):
+            x, y = crest.sighted_point(sighted((0, 0), (c, REST), STRAIGHT, distance))
+            self.assertEqual((x, y), (wanted, near(distance * REST, ONE)))
+        # of both: without the first rounding the point would lie just short of the half
+        for distance in (1, 3, 777, LONGEST_SIGHT - 1):
+            sighting = sighted((0, 0), (HALF, REST), SHORT, distance)
+            self.assertEqual(crest.sighted_point(sighting)[0], (distance + 1) // 2)
+            self.assertEqual(near(distance * HALF * SHORT[0], ONE * ONE), (distance - 1) // 2)
+
+    def number(self, place=(0, 300), backsight=EAST, angle=STRAIGHT, distance=500, file=K):
+        return crest.sighting_answer(crest.check(file), sighted(place, backsight, angle, distance)).number
+
+    def test_7_for_either_pair(self):
+        above_in, above_out, below_in, below_out = unit_limit_pairs()
+        for (c, s), wanted in ((above_in, 0), (below_in, 0), (above_out, 7), (below_out, 7)):
+            for pair in ((c, s), (s, c), (-c, s), (c, -s), (-s, -c)):
+                self.assertEqual(self.number((500, 300), pair, distance=5), wanted)
+                self.assertEqual(self.number((500, 300), angle=pair, distance=5), wanted)
+                self.assertEqual(crest.sighting_stake_out(sighted((0, 0), pair, LEFT, 5), (0, 0)).number, wanted)
+                self.assertEqual(crest.sighting_stake_out(sighted((0, 0), LEFT, pair, 5), (0, 0)).number, wanted)
+        for pair in ((0, 0), (ONE + 1, 0), (0, -ONE - 1), (ONE, ONE), (LEAST, LEAST), (2**80, 0)):
+            self.assertEqual(self.number(backsight=pair), 7)
+            self.assertEqual(self.number(angle=pair), 7)
+
+    def test_turned_pair_is_not_tested(self):
+        above_in, _, below_in, _ = unit_limit_pairs()
+        self.assertEqual((above_in, below_in), ((1_073_741_763, 364_889), SHORT))
+        for pair, direction in ((above_in, (1_073_741_578, 729_778)), (SHORT, (ONE - 2, 0))):
+            self.assertTrue(crest.is_unit(*pair))
+            self.assertFalse(crest.is_unit(*direction))
+            sighting = sighted((100, 300), pair, pair, 400)
+            self.assertEqual(crest.turned_direction(sighting), direction)
+            self.assertEqual(crest.sighting_answer(crest.check(K), sighting)[:3], (0, 0, (5, 300, 0)))
+            self.assertEqual(crest.stake_out((500, 300), (100, 300), direction).number, 7)
+            self.assertEqual(crest.sighting_stake_out(sighting, (100, 300)), (0, 0, 400, 0))
+        # 400,000,000 · (ONE − 2) / ONE is 399,999,999.25
+        own = sighted((FRAME, 0), SHORT, SHORT, 0)
+        self.assertEqual(crest.sighting_stake_out(own, (-FRAME, 0)), (0, 0, 2 * FRAME - 1, 0))
+
+    def test_15_for_the_distance(self):
+        longest = LONGEST_SIGHT
+        for distance, wanted in ((-1, 15), (0, 0), (1, 0), (longest - 1, 0), (longest, 0), (longest + 1, 15)):
+            # to (500, 300), where a distance that is not taken leads too
+            self.assertEqual(self.number((500 - distance, 300), distance=distance), wanted)
+            move = crest.sighting_stake_out(sighted((0, 0), WEST, BACK, distance), (0, 0))
+            self.assertEqual(move, (15, 0, 0, 0) if wanted else (0, 0, distance, 0))
+        for distance in (LEAST, GREATEST, -longest, 2**70):
+            self.assertEqual(self.number(distance=distance), 15)
+
+    def test_11_for_place_and_point(self):
+        file = file_of(line(x=FRAME - 500, y=FRAME))
+        for sign in (1, -1):
+            self.assertEqual(self.number((sign * FRAME, 0), distance=0), 12)
+            self.assertEqual(self.number((0, sign * FRAME), distance=0), 12)
+            self.assertEqual(self.number((sign * (FRAME + 1), 0), distance=0), 11)
+            self.assertEqual(self.number((0, sign * (FRAME + 1)), distance=0), 11)
+        # the place, though the point lies in the frame
+        self.assertEqual(self.number((FRAME, FRAME), WEST, distance=1, file=file), 0)
+        self.assertEqual(self.number((FRAME + 1, FRAME), WEST, distance=1, file=file), 11)
+        self.assertEqual(self.number((FRAME, FRAME + 1), SOUTH, distance=1, file=file), 11)
+        # the point, in each coordinate
+        for backsight, wanted in ((EAST, 11), (NORTH, 11), (WEST, 0), (SOUTH, 0)):
+            self.assertEqual(self.number((FRAME, FRAME), backsight, distance=1, file=file), wanted)
+        self.assertEqual(self.number((-FRAME, 0), WEST, distance=1), 11)
+        self.assertEqual(self.number((0, -FRAME), SOUTH, distance=1), 11)
+        # and by rounding: half a grain goes up, and out only towards rising coordinates
+        self.assertEqual(self.number((FRAME, 0), (HALF, REST), distance=1), 11)
+        self.assertEqual(self.number((-FRAME, 0), (-HALF, REST), distance=1), 12)
+
+    def test_order(self):
+        sighting = Sighting(FRAME + 1, 0, 0, 0, 0, 0, -1)
+        file, number, place = bad_crest()
+        rows = [
+            (dict(), 7),
+            (dict(backsight_c=ONE), 7),
+            (dict(angle_c=ONE), 11),  # the place
+            (dict(x=FRAME), 15),
+            (dict(distance=1), 11),  # the point
+            (dict(angle_c=-ONE), 12),
+            (dict(x=-PAST_END, y=7), 13),
+            (dict(x=1_000_002 + PAST_END), 14),
+            (dict(x=500), 0),
+        ]
+        for change, wanted in rows:
+            sighting = sighting._replace(**change)
+            answer = crest.sighting_answer(crest.check(K), sighting)
+            self.assertEqual(answer[:2], (wanted, 0))
+            if wanted:
+                self.assertEqual(answer[2:], ((0, 0, 0), 0, (0.0, 0.0)))
+            # the crest's own come first, whatever the sighting
+            self.assertEqual(crest.sighting_answer(crest.check(file), sighting)[:2], (number, place))
+            self.assertEqual(crest.sighting_answer(crest.check(b""), sighting)[:2], (1, 0))
+        self.assertEqual(answer[2], (5, 7, -1))
+        # either pair before the place, with the other one good
+        for pair in (dict(backsight_c=1), dict(angle_s=1 - ONE)):
+            self.assertEqual(crest.sighting_fault(sighting._replace(x=FRAME + 1, **pair)), 7)
+
+    def test_answer_is_that_of_the_point(self):
+        rng = random.Random(14)
+        met = set()
+        for _ in range(12):
+            _, alignment = random_file(rng, Wish(rng.randint(1, 5), longest=100))
+            for _ in range(40):
+                sighting = random_sighting(rng, alignment)
+                number = crest.sighting_fault(sighting)
+                x, y = (f64_bits(float(n)) for n in crest.sighted_point(sighting))
+                wanted = crest.reading_answer(alignment, crest.PlanePoint(x, y))
+                if number:
+                    wanted = (number, 0, (0, 0, 0), 0, (0.0, 0.0))
+                self.assertEqual(crest.sighting_answer(alignment, sighting), wanted)
+                self.assertEqual(crest.reading_answer(alignment, sighting), wanted)
+                met.add(wanted[0])
+        self.assertEqual(met, {0, 7, 11, 12, 13, 14, 15})
+
+    def test_display_and_count(self):
+        # to (512, 300) from (512, 1300)
+        answer = crest.sighting_answer(crest.check(K), sighted((512, 1300), EAST, RIGHT, 1000))
+        self.assertEqual(answer, (0, 0, (5, 300, 12), crest.station_and_offset(K, 512, 300).count, (5.0, 3.0)))
+
+
+class SightedMoves(unittest.TestCase):
+    def test_by_hand(self):
+        # prism at (0, 1000), facing south: left is east
+        sighting = sighted((0, 0), EAST, LEFT, 1000)
+        rows = [((100, 700), (300, 100)), ((0, 0), (1000, 0)), ((-5, 1001), (-1, -5)), ((0, 1000), (0, 0))]
+        for target, move in rows:
+            self.assertEqual(crest.sighting_stake_out(sighting, target), (0, 0, *move))
+        # prism at (−1000, 0), facing east
+        sighting = sighted((0, 0), NORTH, LEFT, 1000)
+        self.assertEqual(crest.sighting_stake_out(sighting, (100, 700)), (0, 0, 1100, 700))
+
+    def test_heading_is_that_of_the_stake_out(self):
+        rng = random.Random(15)
+        met = set()
+        for _ in range(600):
+            sighting = random_sighting(rng)
+            target = random_target(rng, sighting)
+            answer = crest.sighting_stake_out(sighting, target)
+            met.add(answer.number)
+            e, f = crest.turned_direction(sighting)
+            if crest.sighting_fault(sighting):
+                self.assertEqual(answer, (crest.sighting_fault(sighting), 0, 0, 0))
+            elif crest.is_unit(e, f):
+                self.assertEqual(answer, crest.stake_out(crest.sighted_point(sighting), target, (-e, -f)))
+        self.assertEqual(met, {0, 7, 11, 15})
+
+    def test_halves_go_up_after_the_heading_is_negated(self):
+        own = sighted((0, 0), (HALF, REST), STRAIGHT, 0)
+        for dx, move in ((1, (0, 1)), (-1, (1, -1)), (3, (-1, 3)), (-3, (2, -3))):
+            self.assertEqual(crest.sighting_stake_out(own, (dx, 0)), (0, 0, *move))
+
+    def test_order(self):
+        sighting = Sighting(FRAME + 1, 0, 0, 0, 0, 0, -1)
+        target = (0, FRAME + 1)
+        room = bytes(range(MOVE_SIZE))
+        rows = [
+            (dict(), 7),
+            (dict(backsight_c=ONE), 7),
+            (dict(angle_c=ONE), 11),  # the place
+            (dict(x=FRAME), 15),
+            (dict(distance=1), 11),  # the point
+            (dict(angle_c=-ONE), 11),  # the target
+        ]
+        for change, wanted in rows:
+            sighting = sighting._replace(**change)
+            self.assertEqual(crest.sighting_stake_out(sighting, target), (wanted, 0, 0, 0))
+            # a refused move leaves the room, and 18 for the room comes first
+            self.assertEqual(crest.crest_sighting_stake_out(*sighting, *target, room), (wanted, room))
+            for size in (0, MOVE_SIZE - 1, MOVE_SIZE + 1, RUN_SIZE):
+                other = bytes([9]) * size
+                self.assertEqual(crest.crest_sighting_stake_out(*sighting, *target, other), (18, other))
+        found = crest.crest_sighting_stake_out(*sighting, 0, FRAME, room)
+        self.assertEqual(found, (0, struct.pack("<ii", 1 - FRAME, FRAME)))
+        self.assertEqual(crest.crest_sighting_stake_out(*sighting, 0, FRAME, room[1:]), (18, room[1:]))
+
+    def test_11_for_point_and_target(self):
+        # the target lies in the frame, the point does not
+        self.assertEqual(crest.sighting_stake_out(sighted((FRAME, 0), EAST, STRAIGHT, 1), (0, 0)), (11, 0, 0, 0))
+        own = sighted((0, 0), EAST, STRAIGHT, 1)
+        for x, y in ((FRAME, 0), (-FRAME, 0), (0, FRAME), (0, -FRAME), (FRAME, -FRAME)):
+            self.assertEqual(crest.sighting_stake_out(own, (x, y)), (0, 0, 1 - x, -y))
+        for target in ((FRAME + 1, 0), (-FRAME - 1, 0), (0, FRAME + 1), (0, -FRAME - 1), (LEAST, GREATEST)):
+            self.assertEqual(crest.sighting_stake_out(own, target), (11, 0, 0, 0))
+
+    def test_corner_to_corner_fits_i32(self):
+        rng = random.Random(16)
+        longest = unit_limit_pairs()[0]
+        pairs = [(longest, longest)] + [(random_unit(rng), random_unit(rng)) for _ in range(300)]
+        for backsight, angle in pairs:
+            answer = crest.sighting_stake_out(sighted((-FRAME, -FRAME), backsight, angle, 0), (FRAME, FRAME))
+            self.assertEqual(answer.number, 0)
+            self.assertLess(max(map(abs, answer)), 2**31)
+
+
 class Runs(unittest.TestCase):
     answered = crest.ReadingAnswer(0, 0, (1, -2, 3))
 
@@ -594,6 +854,83 @@ class Runs(unittest.TestCase):
         self.assertEqual((value, struct.unpack("<6H3i", run)), (0, (2, 2, 7, 0, 0, 0, 0, 0, 0)))
         value, run = crest.crest_plane_reading(K, f64_bits(0.5), NAN, run)
         self.assertEqual((value, struct.unpack("<6H3i", run)), (10, (2, 3, 10, 10, 5, 0, 0, 0, 0)))
+
+    def test_c_history_with_sightings(self):
+        def after(run, sighting, file=K):
+            value, run = crest.crest_sighting_reading(file, *sighting, run)
+            return value, struct.unpack("<6H3i", run), run
+
+        # to (512, 300)
+        value, fields, run = after(bytes(RUN_SIZE), sighted((512, 1300), EAST, RIGHT, 1000))
+        self.assertEqual((value, fields), (0, (1, 0, 0, 0, 0, 0, 5, 300, 12)))
+        value, run = crest.crest_line_reading(K, f64_bits(5.0), f64_bits(-7.0), run)
+        self.assertEqual((value, struct.unpack("<6H3i", run)), (0, (2, 0, 0, 0, 0, 0, 500, -7, 0)))
+        # to (−101, 0)
+        value, fields, run = after(run, sighted((0, 0), NORTH, LEFT, 101))
+        self.assertEqual((value, fields), (13, (2, 1, 13, 13, 3, 0, 0, 0, 0)))
+        value, fields, run = after(run, sighted((0, 0), NORTH, LEFT, -1))
+        self.assertEqual((value, fields), (15, (2, 2, 15, 13, 3, 0, 0, 0, 0)))
+        value, run = crest.crest_acknowledge(run)
+        self.assertEqual((value, struct.unpack("<6H3i", run)), (0, (2, 2, 15, 0, 0, 0, 0, 0, 0)))
+        value, run = crest.crest_plane_reading(K, f64_bits(1.0), f64_bits(2.0), run)
+        self.assertEqual((value, struct.unpack("<6H3i", run)), (0, (3, 2, 0, 0, 0, 0, 0, 2, 1)))
+        file, number, place = bad_crest()
+        value, fields, run = after(run, sighted((0, 0), (0, 0), LEFT, 1), file)
+        self.assertEqual((value, fields), (number + PLACE_UNIT * place, (3, 3, number, number, 6, 0, 0, 0, 0)))
+        value, fields, run = after(run, sighted((0, 0), (0, 0), LEFT, 1))
+        self.assertEqual((value, fields), (7, (3, 4, 7, number, 6, 0, 0, 0, 0)))
+        value, fields, run = after(run, sighted((0, 300), EAST, STRAIGHT, 0))
+        self.assertEqual((value, fields), (0, (4, 4, 0, number, 6, 0, 0, 300, 0)))
+
+    def test_mixed_history_by_value(self):
+        rng = random.Random(17)
+        crests = [crest.check(K), crest.check(file_of(line(length=7))), crest.Refusal(8, 3)]
+        run = crest.FRESH
+        answered = refused = first = first_reading = 0
+        met = set()
+        for _ in range(400):
+            alignment = rng.choice(crests)
+            if rng.randrange(5) == 0:
+                run, first, first_reading = crest.acknowledged(run), 0, 0
+            kind = rng.randrange(4)
+            if kind == 0:
+                observation = crest.PlanePoint(f64_bits(rng.choice((1.0, -101.0, 0.5))), 0)
+            elif kind == 1:
+                observation = crest.LinePlace(f64_bits(rng.choice((3.0, -1.0))), 0)
+            else:
+                observation = random_sighting(rng, None if isinstance(alignment, crest.Refusal) else alignment)
+            outcome, run = crest.take_reading(run, alignment, observation)
+            self.assertEqual(outcome, crest.reading_answer(alignment, observation))
+            met.add(outcome.number)
+            answered, refused = answered + (outcome.number == 0), refused + (outcome.number != 0)
+            if outcome.number and not first:
+                first, first_reading = outcome.number, answered + refused
+            self.assertEqual(run, (answered, refused, outcome.number, first, first_reading, 0, outcome.three))
+        self.assertEqual(met, {0, 7, 8, 10, 11, 12, 13, 14, 15})
+
+    def test_18_and_16_before_all_of_a_sighting(self):
+        file, _, _ = bad_crest()
+        bad = Sighting(FRAME + 1, 0, 0, 0, 0, 0, -1)
+        good = sighted((0, 300), EAST, STRAIGHT, 0)
+        full = MOST_COUNTED
+        for sighting in (bad, good):
+            for crest_bytes in (K, file, b""):
+                for size in (0, RUN_SIZE - 1, RUN_SIZE + 1, 2 * RUN_SIZE):
+                    run = bytes([255]) * size
+                    self.assertEqual(crest.crest_sighting_reading(crest_bytes, *sighting, run), (18, run))
+                for answered, refused in ((full, 0), (0, full), (1, full - 1), (full, full)):
+                    run = struct.pack("<6H3i", answered, refused, 3, 0, 9, 77, -1, 2, -3)
+                    self.assertEqual(crest.crest_sighting_reading(crest_bytes, *sighting, run), (16, run))
+                    state = crest.run_of(run)
+                    outcome, after = crest.take_reading(state, crest.check(crest_bytes), sighting)
+                    self.assertEqual((outcome[:2], after), ((16, 0), state))
+        # the last one that is counted
+        run = struct.pack("<6H3i", full - 1, 0, 3, 0, 9, 77, -1, 2, -3)
+        value, after = crest.crest_sighting_reading(K, *bad, run)
+        self.assertEqual((value, struct.unpack("<6H3i", after)), (7, (full - 1, 1, 7, 7, full, 77, 0, 0, 0)))
+        value, after = crest.crest_sighting_reading(K, *good, run)
+        self.assertEqual((value, struct.unpack("<6H3i", after)), (0, (full, 0, 0, 0, 9, 77, 0, 300, 0)))
+        self.assertEqual(crest.crest_sighting_reading(K, *good, after), (16, after))
 
     def test_18(self):
         for size in (0, RUN_SIZE - 1, RUN_SIZE + 1, 2 * RUN_SIZE):

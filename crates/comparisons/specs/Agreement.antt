@@ -12,14 +12,17 @@ use Rattle.model.specs.declared.Outcome.{Outcome}
 use Rattle.model.specs.declared.Outcome.the-variants.{Done, Refused}
 use Rattle.model.specs.declared.Located.{Located}
 use Rattle.model.specs.declared.Located.the-variants.{At, Refused as LocatedRefused}
+use Rattle.model.specs.declared.Move.{Move}
+use Rattle.model.specs.declared.Move.the-variants.{By, Refused as MoveRefused}
 use Rattle.model.specs.declared.Run.{Run}
-use Rattle.model.specs.Records.{byteAt, u16At, u32At, recordSize}
+use Rattle.model.specs.Records.{byteAt, u16At, u32At, i32At, recordSize}
 use Rattle.model.specs.Refusals.{verdict}
 use Rattle.model.specs.Acceptance.{elementOf, recordRules}
 use Rattle.model.specs.Series.{positionOn, tangentOn}
 use Rattle.model.specs.Crest.{fileCrest, checkOf}
 use Rattle.model.specs.Answers.{located}
-use Rattle.model.specs.Readings.{wholeOf, answerTo}
+use Rattle.model.specs.Readings.{wholeOf}
+use Rattle.model.specs.Sightings.{observedTo, sightedMove}
 use Rattle.model.specs.Calls.{readingCall, acknowledgeCall}
 use Rattle.model.specs.Program.{u64At}
 use Rattle.whole_numbers.specs.declared.WholeNumber.{WholeNumber}
@@ -27,7 +30,7 @@ use Rattle.whole_numbers.specs.declared.WholeNumber.the-variants.{Is, Beyond, N
 use Rattle.whole_numbers.specs.WholeNumbers.{beyond, negatedIf, shortOf}
 use Rattle.comparisons.specs.declared.notes.Told.{Told}
 use Rattle.comparisons.specs.Said.{i64At, isAt}
-use Rattle.comparisons.specs.Notes.{planeOf, lineOf, byCall, noteAgrees, lentAgrees, displayAgrees}
+use Rattle.comparisons.specs.Notes.{sightingAt, byCall, noteAgrees, lentAgrees, displayAgrees}
 
 -- ---- ELEMENT
 
@@ -96,7 +99,7 @@ numberAgrees row = isAt row 8 (numberCode (shortOf (wholeOf (ofBits binary64 (u6
 unfoldable pub calledBy : List ℕ → List ℕ → List ℕ → ℕ × List ℕ
 unfolding readingCall acknowledgeCall
 calledBy row file lent =
-    byCall row (readingCall (answerTo (fileCrest file) (planeOf row)) lent) (readingCall (answerTo (fileCrest file) (lineOf row)) lent) (acknowledgeCall lent) (4294967295, lent)
+    byCall row (λ o. readingCall (observedTo (fileCrest file) o) lent) (acknowledgeCall lent) 56 (4294967295, lent)
 
 -- whether the run's 32 bytes are the row's
 unfoldable pub runIs : List ℕ → List ℕ → Bool
@@ -122,11 +125,22 @@ unfoldable pub runAfterCall : List ℕ → List ℕ → List ℕ → List ℕ
 unfolding calledOn
 runAfterCall row file run = cond (leb (byteAt row 1) (length run)) (calledOn row file run .1) run
 
+-- ---- MOVE
+
+-- the number, 0 for a move; a refusal has no place, and zeros for forward and left
+unfoldable pub moveIs : List ℕ → Move → Bool
+moveIs row (By forward left) = eqb (u32At row 0) 0 && isAt row 8 forward && isAt row 16 left
+moveIs row (MoveRefused why) = not (eqb (u32At row 0) 0) && eqb (why .number) (u32At row 0) && eqb (why .place) 0 && isAt row 8 (pos 0) && isAt row 16 (pos 0)
+
+unfoldable pub moveAgrees : List ℕ → Bool
+unfolding moveIs
+moveAgrees row = moveIs row (sightedMove (sightingAt row 24) (record { x = i32At row 52; y = i32At row 56 }))
+
 -- ---- a row of any sort
 
 -- whether it agrees, and the run by value after it
 unfoldable pub rowAgrees : ℕ → List ℕ → List ℕ → List ℕ → Run → Told
-unfolding recordAgrees fileAgrees pointAgrees numberAgrees callAgrees noteAgrees lentAgrees displayAgrees
+unfolding recordAgrees fileAgrees pointAgrees numberAgrees callAgrees noteAgrees lentAgrees displayAgrees moveAgrees
 rowAgrees sort row part bytes run =
     let told : Bool → Told = λ same. record { same = same; run = run } in
     cond (eqb sort 1) (told (recordAgrees row part))
@@ -136,4 +150,5 @@ rowAgrees sort row part bytes run =
     (cond (eqb sort 5) (told (callAgrees row part bytes))
     (cond (eqb sort 6) (noteAgrees row part run)
     (cond (eqb sort 7) (lentAgrees row part run)
-    (cond (eqb sort 8) (told (displayAgrees row part)) (told false))))))))
+    (cond (eqb sort 8) (told (displayAgrees row part))
+    (cond (eqb sort 9) (told (moveAgrees row)) (told false)))))))))

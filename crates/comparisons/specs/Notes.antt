@@ -8,25 +8,36 @@ use lib.Ieee.{binary64, ofBits}
 use mir.Syntax.{w32}
 use mir.Val.{ofZ}
 use Rattle.model.specs.declared.Display.{Display}
-use Rattle.model.specs.declared.Reading.{Reading}
 use Rattle.model.specs.declared.Reading.the-variants.{PlanePoint, LinePlace}
+use Rattle.model.specs.declared.Sighting.{Sighting}
+use Rattle.model.specs.declared.Observation.{Observation}
+use Rattle.model.specs.declared.Observation.the-variants.{Read, Sighted}
 use Rattle.model.specs.declared.ReadingAnswer.{ReadingAnswer}
 use Rattle.model.specs.declared.ReadingAnswer.the-variants.{PlanePoint as AnswerPoint, LinePlace as AnswerPlace, Refused as AnswerRefused}
 use Rattle.model.specs.declared.Run.{Run}
-use Rattle.model.specs.Records.{byteAt, u16At, part}
+use Rattle.model.specs.Records.{byteAt, u16At, i32At, part}
 use Rattle.model.specs.Crest.{fileCrest}
-use Rattle.model.specs.Readings.{answerTo, displayOf}
+use Rattle.model.specs.Readings.{displayOf}
+use Rattle.model.specs.Sightings.{observedTo}
 use Rattle.model.specs.Run.{runSize, runAt, acknowledged, noted}
+use Rattle.model.specs.Calls.{sightingOf}
 use Rattle.model.specs.Program.{u64At}
 use Rattle.comparisons.specs.declared.notes.Told.{Told}
 use Rattle.comparisons.specs.Said.{isAt, floatIsAt}
 
 -- the row's reading, of one sort or the other
-abbrev pub planeOf : List ℕ → Reading
-planeOf row = PlanePoint (ofBits binary64 (u64At row 8)) (ofBits binary64 (u64At row 16))
+abbrev pub planeOf : List ℕ → Observation
+planeOf row = Read (PlanePoint (ofBits binary64 (u64At row 8)) (ofBits binary64 (u64At row 16)))
 
-abbrev pub lineOf : List ℕ → Reading
-lineOf row = LinePlace (ofBits binary64 (u64At row 8)) (ofBits binary64 (u64At row 16))
+abbrev pub lineOf : List ℕ → Observation
+lineOf row = Read (LinePlace (ofBits binary64 (u64At row 8)) (ofBits binary64 (u64At row 16)))
+
+-- the row's sighting, whose seven numbers begin at a place
+abbrev pub sightingAt : List ℕ → ℕ → Sighting
+sightingAt row at = sightingOf (i32At row at) (i32At row (at + 4)) (i32At row (at + 8)) (i32At row (at + 12)) (i32At row (at + 16)) (i32At row (at + 20)) (i32At row (at + 24))
+
+abbrev pub sightedAt : List ℕ → ℕ → Observation
+sightedAt row at = Sighted (sightingAt row at)
 
 -- ---- an answer
 
@@ -89,26 +100,25 @@ unfoldable pub lentTold : List ℕ → ReadingAnswer → Run → Told
 unfolding answerIs runIn noted
 lentTold row a run = let n = noted a run in record { same = answerIs row (n .answer) && runIn row (n .run); run = n .run }
 
--- the row's call: a plane reading, a line reading or an acknowledgement
-abbrev pub byCall : {A : Type 0} → List ℕ → A → A → A → A → A
-byCall row plane line acknowledge none =
-    let sort = byteAt row 0 in cond (eqb sort 0) plane (cond (eqb sort 1) line (cond (eqb sort 2) acknowledge none))
+-- the row's call: a plane reading, a line reading, an acknowledgement or a sighting
+abbrev pub byCall : {A : Type 0} → List ℕ → (Observation → A) → A → ℕ → A → A
+byCall row observed acknowledge at none =
+    let sort = byteAt row 0 in
+    cond (eqb sort 0) (observed (planeOf row)) (cond (eqb sort 1) (observed (lineOf row)) (cond (eqb sort 2) acknowledge (cond (eqb sort 3) (observed (sightedAt row at)) none)))
 
 unfoldable pub noteAgrees : List ℕ → List ℕ → Run → Told
 unfolding notedTold acknowledgedTold acknowledged
 noteAgrees row file run =
-    byCall row (notedTold row (answerTo (fileCrest file) (planeOf row)) run) (notedTold row (answerTo (fileCrest file) (lineOf row)) run) (acknowledgedTold row (acknowledged run)) (record { same = false; run = run })
+    byCall row (λ o. notedTold row (observedTo (fileCrest file) o) run) (acknowledgedTold row (acknowledged run)) 96 (record { same = false; run = run })
 
 unfoldable pub lentAgrees : List ℕ → List ℕ → Run → Told
 unfolding lentTold acknowledgedTold acknowledged
 lentAgrees row file run =
-    byCall row (lentTold row (answerTo (fileCrest file) (planeOf row)) run) (lentTold row (answerTo (fileCrest file) (lineOf row)) run) (acknowledgedTold row (acknowledged run)) (record { same = false; run = run })
+    byCall row (λ o. lentTold row (observedTo (fileCrest file) o) run) (acknowledgedTold row (acknowledged run)) 96 (record { same = false; run = run })
 
 -- ---- DISPLAY
 
 unfoldable pub displayAgrees : List ℕ → List ℕ → Bool
 unfolding displayIsAt displayOf
 displayAgrees row file =
-    let sort = byteAt row 0 in
-    let shown : Reading → Bool = λ r. displayIsAt row 24 (displayOf (answerTo (fileCrest file) r)) in
-    cond (eqb sort 0) (shown (planeOf row)) (cond (eqb sort 1) (shown (lineOf row)) false)
+    byCall row (λ o. displayIsAt row 24 (displayOf (observedTo (fileCrest file) o))) false 40 false

@@ -5,19 +5,20 @@ use crate::notes::line;
 use crate::notes::plane;
 use crate::notes::same_answer;
 use crate::notes::same_run;
+use crate::notes::sighted;
 use crate::said::Row;
-use model::Reading;
+use model::Observation;
 use model::Run;
 ghost use mathlib.Core.Path.{_≡_};
 ghost use Rattle.model.specs.Crest.{fileCrest};
-ghost use Rattle.model.specs.Readings.{answerTo};
+ghost use Rattle.model.specs.Sightings.{observedTo};
 ghost use Rattle.comparisons.specs.Notes.{lentTold, lentAgrees};
 
-// A reading on a run.
-fn noted(row: &Row, crest: &[u8], reading: Reading, run: Run) -> Told
-    ensures { λ r. ⌜ r ≡ lentTold (now (row .entry)) (answerTo (fileCrest (now (crest .entry))) reading) run ⌝ }
+// A reading or a sighting on a run.
+fn noted(row: &Row, crest: &[u8], observation: Observation, run: Run) -> Told
+    ensures { λ r. ⌜ r ≡ lentTold (now (row .entry)) (observedTo (fileCrest (now (crest .entry))) observation) run ⌝ }
 {
-    let came = lent_runs::note(crest, reading, run);
+    let came = lent_runs::note(crest, observation, run);
     let answer = came.answer;
     let after = came.run;
     Told {
@@ -34,6 +35,7 @@ pub fn agrees(row: &Row, crest: &[u8], run: Run) -> Told
         0 => noted(row, crest, plane(row), run),
         1 => noted(row, crest, line(row), run),
         2 => acknowledged(row, lent_runs::acknowledge(run)),
+        3 => noted(row, crest, sighted(row, 96), run),
         _ => Told { same: false, run },
     }
 }

@@ -18,6 +18,7 @@ mod calls;
 mod displays;
 mod files;
 mod lents;
+mod moves;
 mod notes;
 mod numbers;
 mod places;
@@ -40,9 +41,11 @@ const LENT: u8 = 7;
 
 const DISPLAY: u8 = 8;
 
-const BYTES: u8 = 9;
+const MOVE: u8 = 9;
 
-const RUN: u8 = 10;
+const BYTES: u8 = 10;
+
+const RUN: u8 = 11;
 
 // What a row comes to. One that is cut off, of no known sort or with a part past the store is compared with nothing.
 enum Came {
@@ -65,17 +68,18 @@ struct State {
 
 // How many bytes follow the head of a row that compares.
 fn size(sort: u8) -> usize
-    ensures { λ r. ⌜ r ≤ 96 ⌝ }
+    ensures { λ r. ⌜ r ≤ 124 ⌝ }
 {
     match sort {
         ELEMENT => 36,
         FILE => 4,
         POINT => 44,
         NUMBER => 16,
-        CALL => 56,
-        NOTE => 96,
-        LENT => 80,
-        DISPLAY => 40,
+        CALL => 84,
+        NOTE => 124,
+        LENT => 124,
+        DISPLAY => 68,
+        MOVE => 60,
         _ => 0,
     }
 }
@@ -111,6 +115,10 @@ fn agrees(sort: u8, row: &Row, part: &[u8], bytes: &mut [u8], run: Run) -> Told
             same: displays::agrees(row, part),
             run,
         },
+        MOVE => Told {
+            same: moves::agrees(row),
+            run,
+        },
         _ => Told { same: false, run },
     }
 }
@@ -128,7 +136,7 @@ fn compared(sort: u8, part: &[u8], bytes: &mut [u8], run: Run) -> Step {
     if n == 0 {
         return cut(run);
     }
-    let mut row = [0u8; 96];
+    let mut row = [0u8; 124];
     if io::read_full(0, &mut row[0..n]) < n {
         return cut(run);
     }
@@ -279,7 +287,7 @@ fn say_questions(t: Tallies) {
     say_sort(b"numbers ", right[4], wrong[4]);
 }
 
-// Those of calls, and of display pairs.
+// Those of calls, of display pairs, and of moves.
 fn say_calls(t: Tallies) {
     let right = t.right;
     let wrong = t.wrong;
@@ -287,6 +295,7 @@ fn say_calls(t: Tallies) {
     say_sort(b"calls by value ", right[6], wrong[6]);
     say_sort(b"calls in place ", right[7], wrong[7]);
     say_sort(b"display pairs ", right[8], wrong[8]);
+    say_sort(b"sighted moves ", right[9], wrong[9]);
 }
 
 // That of all other rows, where one differs.

@@ -1,23 +1,25 @@
 // Calls on a run record by value, one after the other: a row's sort of call, its answer, two f64 numbers, four values, the run
-// afterwards and the display pair.
+// afterwards, the display pair, and the seven numbers of a sighting.
 use crate::said::Row;
 use crate::said::float_is_at;
 use crate::said::is_at;
 use fields::eight::float;
 use fields::eight::u64_at;
 use model::Display;
+use model::Observation;
 use model::Reading;
 use model::ReadingAnswer;
 use model::Run;
+use model::Sighting;
 use run_bytes::run_at;
 ghost use mathlib.Core.Path.{_≡_};
 ghost use Prim.Native.Nat.{_+_, _≤_};
 ghost use lib.ListN.{length};
 ghost use Rattle.model.specs.Records.{part};
 ghost use Rattle.model.specs.Crest.{fileCrest};
-ghost use Rattle.model.specs.Readings.{answerTo};
+ghost use Rattle.model.specs.Sightings.{observedTo};
 ghost use Rattle.model.specs.Run.{runSize, runAt};
-ghost use Rattle.comparisons.specs.Notes.{planeOf, lineOf, headIs, answerIs, sameFields, runIn, displayIsAt, acknowledgedTold, notedTold, noteAgrees};
+ghost use Rattle.comparisons.specs.Notes.{planeOf, lineOf, sightingAt, sightedAt, headIs, answerIs, sameFields, runIn, displayIsAt, acknowledgedTold, notedTold, noteAgrees};
 
 // Whether a call agrees with its row, and the run after it.
 pub struct Told {
@@ -26,21 +28,45 @@ pub struct Told {
 }
 
 // The plane point of a row's two numbers.
-pub fn plane(row: &Row) -> Reading
+pub fn plane(row: &Row) -> Observation
     ensures { λ r. ⌜ r ≡ planeOf (now (row .entry)) ⌝ }
 {
     let x = float(u64_at(row, 8));
     let y = float(u64_at(row, 16));
-    Reading::PlanePoint { x, y }
+    Observation::Read(Reading::PlanePoint { x, y })
 }
 
 // The line place of them.
-pub fn line(row: &Row) -> Reading
+pub fn line(row: &Row) -> Observation
     ensures { λ r. ⌜ r ≡ lineOf (now (row .entry)) ⌝ }
 {
     let station = float(u64_at(row, 8));
     let offset = float(u64_at(row, 16));
-    Reading::LinePlace { station, offset }
+    Observation::Read(Reading::LinePlace { station, offset })
+}
+
+// The sighting of the seven numbers from `at` on.
+pub fn sighting(row: &Row, at: usize) -> Sighting
+    requires { ⌜ at + 28 ≤ 124 ⌝ }
+    ensures { λ r. ⌜ r ≡ sightingAt (now (row .entry)) at ⌝ }
+{
+    Sighting {
+        x: fields::i32_at(row, at),
+        y: fields::i32_at(row, at + 4),
+        backsight_c: fields::i32_at(row, at + 8),
+        backsight_s: fields::i32_at(row, at + 12),
+        angle_c: fields::i32_at(row, at + 16),
+        angle_s: fields::i32_at(row, at + 20),
+        distance: fields::i32_at(row, at + 24),
+    }
+}
+
+// That as an observation.
+pub fn sighted(row: &Row, at: usize) -> Observation
+    requires { ⌜ at + 28 ≤ 124 ⌝ }
+    ensures { λ r. ⌜ r ≡ sightedAt (now (row .entry)) at ⌝ }
+{
+    Observation::Sighted(sighting(row, at))
 }
 
 // Whether the row's answer is of this case, with this number and place.
@@ -102,7 +128,7 @@ fn same_fields(a: Run, b: Run) -> bool
 
 // The run that a row's 24 bytes spell.
 fn spelt(row: &[u8]) -> Run
-    requires { ⌜ length (now row) ≡ 96 ⌝ }
+    requires { ⌜ length (now row) ≡ 124 ⌝ }
     ensures { λ r. ⌜ r ≡ runAt (part (now (row .entry)) 56 runSize) ⌝ }
 {
     run_at(&row[56..80])
@@ -117,7 +143,7 @@ pub fn same_run(row: &Row, run: Run) -> bool
 
 // Whether a display pair is the row's, bit for bit.
 pub fn same_display(row: &Row, at: usize, d: Display) -> bool
-    requires { ⌜ at + 16 ≤ 96 ⌝ }
+    requires { ⌜ at + 16 ≤ 124 ⌝ }
     ensures { λ r. ⌜ r ≡ displayIsAt (now (row .entry)) at d ⌝ }
 {
     float_is_at(row, at, d.station) & float_is_at(row, at + 8, d.offset)
@@ -140,11 +166,11 @@ pub fn acknowledged(row: &Row, after: Run) -> Told
     }
 }
 
-// A reading on a run.
-fn noted(row: &Row, crest: &[u8], reading: Reading, run: Run) -> Told
-    ensures { λ r. ⌜ r ≡ notedTold (now (row .entry)) (answerTo (fileCrest (now (crest .entry))) reading) run ⌝ }
+// A reading or a sighting on a run.
+fn noted(row: &Row, crest: &[u8], observation: Observation, run: Run) -> Told
+    ensures { λ r. ⌜ r ≡ notedTold (now (row .entry)) (observedTo (fileCrest (now (crest .entry))) observation) run ⌝ }
 {
-    let came = entries::note(crest, reading, run);
+    let came = entries::note(crest, observation, run);
     let answer = came.answer;
     let shown = came.display;
     let after = came.run;
@@ -162,6 +188,7 @@ pub fn agrees(row: &Row, crest: &[u8], run: Run) -> Told
         0 => noted(row, crest, plane(row), run),
         1 => noted(row, crest, line(row), run),
         2 => acknowledged(row, entries::acknowledge(run)),
+        3 => noted(row, crest, sighted(row, 96), run),
         _ => Told { same: false, run },
     }
 }

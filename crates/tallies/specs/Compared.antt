@@ -7,9 +7,9 @@ use lib.ListN.{replicate, set, getD}
 use Rattle.tallies.specs.declared.Tally.{Tally}
 use Rattle.tallies.specs.declared.Tallies.{Tallies}
 
--- the sorts that have a tally of their own, at their number: 1 to 8
+-- the sorts that have a tally of their own, at their number: 1 to 9
 abbrev pub sorts : ℕ
-sorts = 8
+sorts = 9
 
 -- where the tally of a sort stands: at 0 for any other
 abbrev pub tallyOf : ℕ → ℕ

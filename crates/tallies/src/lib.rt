@@ -4,7 +4,7 @@ ghost use Prim.Native.Nat.{_<_};
 ghost use Rattle.tallies.specs.Compared.{tallyOf, nothingCompared, compared, countedAt};
 
 // The sorts that have a tally of their own.
-const SORTS: u8 = 8;
+const SORTS: u8 = 9;
 
 pub struct Tally {
     pub done: u64,
@@ -13,23 +13,23 @@ pub struct Tally {
 
 // The tallies of these sorts, each at its number, and at 0 that of all others: of rows that are right, and of rows that are wrong.
 pub struct Tallies {
-    pub right: [Tally; 9],
-    pub wrong: [Tally; 9],
+    pub right: [Tally; 10],
+    pub wrong: [Tally; 10],
 }
 
 pub fn none() -> Tallies
     ensures { λ r. ⌜ r ≡ nothingCompared ⌝ }
 {
     Tallies {
-        right: [Tally { done: 0, differ: 0 }; 9],
-        wrong: [Tally { done: 0, differ: 0 }; 9],
+        right: [Tally { done: 0, differ: 0 }; 10],
+        wrong: [Tally { done: 0, differ: 0 }; 10],
     }
 }
 
 // Where the tally of a sort stands.
 pub fn index(sort: u8) -> usize
     ensures { λ r. ⌜ r ≡ tallyOf sort ⌝ }
-    ensures { λ r. ⌜ r < 9 ⌝ }
+    ensures { λ r. ⌜ r < 10 ⌝ }
 {
     if sort <= SORTS { sort as usize } else { 0 }
 }
@@ -54,7 +54,7 @@ fn with(t: Tally, same: bool) -> Tally
 
 // One comparison more in the tally at k, with a row that is wrong or right.
 pub fn counted(mut t: Tallies, k: usize, wrong: bool, same: bool) -> Tallies
-    requires { ⌜ k < 9 ⌝ }
+    requires { ⌜ k < 10 ⌝ }
     ensures { λ r. ⌜ r ≡ countedAt k wrong t same ⌝ }
 {
     if wrong {

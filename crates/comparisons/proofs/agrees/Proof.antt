@@ -39,24 +39,30 @@ returns-8 c = rw (c .before .match .keys8, c .agrees8 .ensures)
 
 returns-9 : tie.Need-returns-9
 unfolding rowAgrees
-returns-9 c =
+returns-9 c = rw (c .before .match .keys9, c .agrees9 .ensures)
+
+returns-10 : tie.Need-returns-10
+unfolding rowAgrees
+returns-10 c =
     let s = c .match .rest in
-    let r = s .0 .0 .0 in
+    let r = s .0 .0 .0 .0 in
     rw (
       ne-eqb _ 1 (r .0 .0 .0 .0 .1),
       ne-eqb _ 2 (r .0 .0 .0 .1),
       ne-eqb _ 3 (r .0 .0 .1),
       ne-eqb _ 4 (r .0 .1),
       ne-eqb _ 5 (r .1),
-      ne-eqb _ 6 (s .0 .0 .1),
-      ne-eqb _ 7 (s .0 .1),
-      ne-eqb _ 8 (s .1),
+      ne-eqb _ 6 (s .0 .0 .0 .1),
+      ne-eqb _ 7 (s .0 .0 .1),
+      ne-eqb _ 8 (s .0 .1),
+      ne-eqb _ 9 (s .1),
     )
 
 pub agrees-spec : {M : Type 1} → statement M
 agrees-spec =
     tie.close
     (tie.spec
+    (λ c κs. search needs)
     (λ c κs. search needs)
     (λ c κs. search needs)
     (λ c κs. search needs)
@@ -74,4 +80,5 @@ agrees-spec =
     returns-6
     returns-7
     returns-8
-    returns-9)
+    returns-9
+    returns-10)

@@ -5,8 +5,10 @@ use borrow.Author.Tests.{eq-eqb, ne-eqb}
 use denote.Ref.{now}
 use lib.Ieee.{Float, binary64, ofBits}
 use Rattle.model.specs.declared.Reading.the-variants.{PlanePoint, LinePlace}
+use Rattle.model.specs.declared.Sighting.{Sighting}
 use Rattle.model.specs.Crest.{fileCrest}
 use Rattle.model.specs.Readings.{answerTo}
+use Rattle.model.specs.Sightings.{sightedTo, observedQuestion}
 use Rattle.model.specs.Calls.{readingCall}
 use Rattle.model.specs.Program.{u64At}
 use Rattle.comparisons.specs.Agreement.{calledBy}
@@ -31,7 +33,7 @@ module _ (c : tie.After-match2) where
   two-is = two .float2 .ensures ∙ ap (ofBits binary64) (two .before .u64-at2 .ensures)
 
 returns : tie.Need-returns
-unfolding calledBy
+unfolding calledBy observedQuestion
 returns c =
     let k = c .before .before in
     let m = k .before .before in
@@ -41,7 +43,7 @@ returns c =
     ∙ ap₂ (λ (x y : Float). readingCall (answerTo (fileCrest (now (s .args .crest))) (PlanePoint x y)) (now (s .args .run))) (one-is (m .before)) (two-is (m .before)))
 
 returns-2 : tie.Need-returns-2
-unfolding calledBy
+unfolding calledBy observedQuestion
 returns-2 c =
     let k = c .before .before in
     let m = k .before .before in
@@ -57,10 +59,20 @@ returns-3 c =
     rw (k .before .before .match .keys3) (k .crest-acknowledge .ensures)
 
 returns-4 : tie.Need-returns-4
-unfolding calledBy
+unfolding calledBy observedQuestion
 returns-4 c =
+    let k = c .before .before in
+    let g = k .before .before in
+    let m = g .before in
+    let s = start (m .before) in
+    rw (m .match .keys4)
+    (k .sighted .ensures ∙ ap (λ (x : Sighting). readingCall (sightedTo (fileCrest (now (s .args .crest))) x) (now (s .args .run))) (g .sighting .ensures))
+
+returns-5 : tie.Need-returns-5
+unfolding calledBy
+returns-5 c =
     let r = c .match .rest in
-    rw (ne-eqb _ 0 (r .0 .0 .1), ne-eqb _ 1 (r .0 .1), ne-eqb _ 2 (r .1))
+    rw (ne-eqb _ 0 (r .0 .0 .0 .1), ne-eqb _ 1 (r .0 .0 .1), ne-eqb _ 2 (r .0 .1), ne-eqb _ 3 (r .1))
 
 pub value-spec : {M : Type 1} → statement M
 value-spec =
@@ -74,10 +86,14 @@ value-spec =
     (λ c κs. search needs)
     (λ c κs. search needs)
     (λ c κs. search needs)
+    (λ c κs. search needs)
+    (λ c κs. search needs)
     (λ c. search needs)
     returns
     (λ c. search needs)
     returns-2
     (λ c. search needs)
     returns-3
-    returns-4)
+    (λ c. search needs)
+    returns-4
+    returns-5)

@@ -3,9 +3,9 @@ use mathlib.Core.Path.{ap, _∙_}
 use borrow.Author.Needs.{needs}
 use borrow.Author.Tests.{ne-eqb}
 use denote.Ref.{now}
-use Rattle.model.specs.declared.Reading.{Reading}
+use Rattle.model.specs.declared.Observation.{Observation}
 use Rattle.model.specs.Crest.{fileCrest}
-use Rattle.model.specs.Readings.{answerTo}
+use Rattle.model.specs.Sightings.{observedTo}
 use Rattle.comparisons.specs.Notes.{acknowledgedTold, notedTold, noteAgrees}
 use Rattle.comparisons.proofs.notes.agrees.Statement.{statement}
 use Rattle.comparisons.proofs.notes.agrees.Tie as tie
@@ -16,7 +16,7 @@ returns c =
     let p = c .before in
     let s = p .before .before .before .before in
     rw (p .before .match .keys1)
-    (c .noted .ensures ∙ ap (λ (r : Reading). notedTold (now (s .args .row)) (answerTo (fileCrest (now (s .args .crest))) r) (s .args .run)) (p .plane .ensures))
+    (c .noted .ensures ∙ ap (λ (o : Observation). notedTold (now (s .args .row)) (observedTo (fileCrest (now (s .args .crest))) o) (s .args .run)) (p .plane .ensures))
 
 returns-2 : tie.Need-returns-2
 unfolding noteAgrees
@@ -24,7 +24,7 @@ returns-2 c =
     let p = c .before in
     let s = p .before .before .before .before in
     rw (p .before .match .keys2)
-    (c .noted2 .ensures ∙ ap (λ (r : Reading). notedTold (now (s .args .row)) (answerTo (fileCrest (now (s .args .crest))) r) (s .args .run)) (p .line .ensures))
+    (c .noted2 .ensures ∙ ap (λ (o : Observation). notedTold (now (s .args .row)) (observedTo (fileCrest (now (s .args .crest))) o) (s .args .run)) (p .line .ensures))
 
 returns-3 : tie.Need-returns-3
 unfolding noteAgrees
@@ -34,7 +34,15 @@ returns-3 c =
 
 returns-4 : tie.Need-returns-4
 unfolding noteAgrees
-returns-4 c = let r = c .match .rest in rw (ne-eqb _ 0 (r .0 .0 .1), ne-eqb _ 1 (r .0 .1), ne-eqb _ 2 (r .1))
+returns-4 c =
+    let p = c .before in
+    let s = p .before .before .before .before in
+    rw (p .before .match .keys4)
+    (c .noted3 .ensures ∙ ap (λ (o : Observation). notedTold (now (s .args .row)) (observedTo (fileCrest (now (s .args .crest))) o) (s .args .run)) (p .sighted .ensures))
+
+returns-5 : tie.Need-returns-5
+unfolding noteAgrees
+returns-5 c = let r = c .match .rest in rw (ne-eqb _ 0 (r .0 .0 .0 .1), ne-eqb _ 1 (r .0 .0 .1), ne-eqb _ 2 (r .0 .1), ne-eqb _ 3 (r .1))
 
 pub agrees-spec : {M : Type 1} → statement M
 agrees-spec =
@@ -47,7 +55,10 @@ agrees-spec =
     (λ c κs. search needs)
     (λ c κs. search needs)
     (λ c κs. search needs)
+    (λ c κs. search needs)
+    (λ c κs. search needs)
     returns
     returns-2
     returns-3
-    returns-4)
+    returns-4
+    returns-5)

@@ -12,11 +12,22 @@ static uint8_t run[CREST_RUN_BYTES], out[PROBE_RECORD_BYTES];
 static uint32_t length, count;
 static int32_t point[2];
 
+/* a sighting: the instrument stands 3 m before the prism, and turns a quarter to the right from a backsight along y */
+enum { SIGHT = 300000 };
+
 static uint32_t check(void) { return crest_check(crest, length); }
 static uint32_t written(void) { return crest_write(records, count * CREST_RECORD_BYTES, room, sizeof room); }
 static uint32_t plane_reading(void) { return crest_plane_reading(crest, length, point[0], point[1], run, sizeof run); }
 static uint32_t line_reading(void) { return crest_line_reading(crest, length, 1, 0, run, sizeof run); }
+static uint32_t sighting_reading(void)
+{
+    return crest_sighting_reading(crest, length, point[0] - SIGHT, point[1], 0, ONE, 0, -ONE, SIGHT, run, sizeof run);
+}
 static uint32_t stake_out(void) { return crest_stake_out(0, 0, 100, 200, 0, ONE, out, CREST_MOVE_BYTES); }
+static uint32_t sighting_stake_out(void)
+{
+    return crest_sighting_stake_out(-SIGHT, 0, 0, ONE, 0, -ONE, SIGHT, 100, 200, out, CREST_MOVE_BYTES);
+}
 static uint32_t acknowledge(void) { return crest_acknowledge(run, sizeof run); }
 static uint32_t position(void) { return probe_position(crest, length, 1, out, PROBE_POSITION_BYTES); }
 static uint32_t locate(void) { return probe_locate(crest, length, point[0], point[1], out, PROBE_LOCATE_BYTES); }
@@ -31,7 +42,9 @@ static const struct {
     {"crest_write", written},
     {"crest_plane_reading", plane_reading},
     {"crest_line_reading", line_reading},
+    {"crest_sighting_reading", sighting_reading},
     {"crest_stake_out", stake_out},
+    {"crest_sighting_stake_out", sighting_stake_out},
     {"crest_acknowledge", acknowledge},
     {"probe_position", position},
     {"probe_locate", locate},

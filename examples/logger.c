@@ -1,5 +1,6 @@
-/* The firmware of one night: the office writes a crest card, the logger at the dam loads it, takes readings unattended, and
- * shows its run on Monday morning. Then the same night with a damaged card.
+/* Three nights of a logger's firmware: the office writes a crest card, the logger at the dam loads it, takes readings unattended,
+ * and shows its run on Monday morning. Then the same night with a damaged card, and one in which an instrument sights the
+ * markers; there the logger also tells a crew the move of a stake.
  *
  *     cc -std=c11 -Iinclude -o target/logger examples/logger.c target/staticlib/libcrest.a
  *     target/logger target/card        the file is the card, which it writes
@@ -110,6 +111,19 @@ static const struct {
     {"05:00", POINT, 10882384, 10374587}, /* the end */
 };
 
+/* What a call returned, and where it answered, what it left in the run. */
+static void show(const char *name, uint32_t refusal, enum sort sort)
+{
+    printf("%s ", name);
+    if (refusal != 0) {
+        printf("refused %u\n", (unsigned)CREST_NUMBER(refusal));
+    } else if (sort == POINT) {
+        printf("station %ld mm, offset %ld, residual %ld grains\n", get32(run + 12), get32(run + 16), get32(run + 20));
+    } else {
+        printf("point x %ld, y %ld grains\n", get32(run + 12), get32(run + 16));
+    }
+}
+
 /* The check of the card is part of every call: nothing has to be remembered from load(). */
 static void take_readings(void)
 {
@@ -117,15 +131,49 @@ static void take_readings(void)
         int point = night[i].sort == POINT;
         uint32_t refusal = point ? crest_plane_reading(card, card_len, night[i].first, night[i].second, run, sizeof run)
                                  : crest_line_reading(card, card_len, night[i].first, night[i].second, run, sizeof run);
-        printf("%s ", night[i].time);
-        if (refusal != 0) {
-            printf("refused %u\n", (unsigned)CREST_NUMBER(refusal));
-        } else if (point) {
-            printf("station %ld mm, offset %ld, residual %ld grains\n", get32(run + 12), get32(run + 16), get32(run + 20));
-        } else {
-            printf("point x %ld, y %ld grains\n", get32(run + 12), get32(run + 16));
-        }
+        show(night[i].time, refusal, night[i].sort);
     }
+}
+
+/* ---- An instrument beside the dam: its place in grains, and the direction to its backsight, 3/5 against x and 4/5 along y */
+
+static const int32_t place_x = 4200000, place_y = 8900000, backsight_c = -644245094, backsight_s = 858993459;
+
+/* The angle turned from the backsight to a prism, its cosine and sine with 2^30 for 1, and the distance in grains. */
+struct sight {
+    const char *name;
+    int32_t angle_c, angle_s, distance;
+};
+static const struct sight markers[] = {
+    {"M1", -590597860, 896724970, 6544410},   /* beside the straight */
+    {"M2", -1048052747, -233467222, 3679084}, /* beside the spiral */
+    {"M3", -652285988, -852903567, -1},       /* beside the arc, but nothing came back: the instrument gives -1 */
+    {"M4", -444008992, -977638747, 6843135},  /* the end */
+};
+static const struct sight stake = {"S1", -1048996059, -229191563, 3674306};
+
+static void take_sightings(void)
+{
+    for (size_t i = 0; i < sizeof markers / sizeof markers[0]; i++) {
+        const struct sight *at = &markers[i];
+        uint32_t refusal = crest_sighting_reading(card, card_len, place_x, place_y, backsight_c, backsight_s, at->angle_c,
+                                                  at->angle_s, at->distance, run, sizeof run);
+        show(at->name, refusal, POINT);
+    }
+}
+
+/* A stake belongs at station 75 m, 4.5 mm to the right. The card says where that is, on a run that is thrown away, and the
+ * instrument sees where the crew holds the prism. The move is for one who looks from there to the instrument. */
+static int tell_crew(void)
+{
+    uint8_t asked[CREST_RUN_BYTES] = {0}, move[CREST_MOVE_BYTES];
+    if (crest_line_reading(card, card_len, 75000, -450, asked, sizeof asked) != 0
+        || crest_sighting_stake_out(place_x, place_y, backsight_c, backsight_s, stake.angle_c, stake.angle_s, stake.distance,
+                                    (int32_t)get32(asked + 12), (int32_t)get32(asked + 16), move, sizeof move) != 0) {
+        return 0;
+    }
+    printf("stake %s, facing the instrument: forward %ld, left %ld grains\n", stake.name, get32(move), get32(move + 4));
+    return 1;
 }
 
 /* From the run's bytes alone. */
@@ -176,5 +224,19 @@ int main(int argc, char **argv)
     load(argv[1]);
     take_readings();
     monday();
-    return 0;
+
+    /* The office sends the card again, and the markers are sighted. Sightings are counted on the same run. */
+    made[300] ^= 1;
+    if (!save(argv[1], made, sizeof made)) {
+        return 1;
+    }
+    printf("-- a night of sightings\n");
+    if (crest_acknowledge(run, sizeof run) != 0) {
+        return 1;
+    }
+    printf("acknowledged\n");
+    load(argv[1]);
+    take_sightings();
+    monday();
+    return tell_crew() ? 0 : 1;
 }

@@ -10,12 +10,13 @@
 #include <string.h>
 #include <xmmintrin.h>
 
-/* The numbers of document 01's rules that crest.h has no name for, as far as they are used here; tests/limits compares them. */
+/* The numbers of the rules that crest.h has no name for, as far as they are used here; tests/limits compares them. */
 #define ONE (1 << 30)
 #define GRAINS 100
 #define FRAME 200000000
 #define WIDEST_GAP 100
 #define WIDEST_OFFSET 20000000
+#define LONGEST_SIGHT 50000000
 #define SUMS_AT 508
 #define KIND_AT 0
 #define RECORD_LENGTH_AT 4
@@ -281,6 +282,7 @@ static void readings(void)
             run = room_of(len);
             expect("odd run", crest_plane_reading(file, sizeof k, 0.0, 0.0, run, len), 18);
             expect("odd run", crest_line_reading(NULL, 0, 0.0, 0.0, run, len), 18);
+            expect("odd run", crest_sighting_reading(NULL, 0, FRAME + 1, 0, 0, 0, 0, 0, -1, run, len), 18);
             expect("odd run", crest_acknowledge(run, len), 18);
             hold("odd run unchanged", all(run, len, 0x5a));
             end_room("odd run", run, len);
@@ -315,6 +317,113 @@ static void stakes(void)
         hold("across the frame", is_move(move, 2 * FRAME, 2 * FRAME));
         end_room("move", move, CREST_MOVE_BYTES);
     }
+}
+
+/* Four fifths and three fifths of ONE: a direction. */
+#define FOUR 858993459
+#define THREE 644245094
+/* The largest s with which (ONE, s) is a unit. */
+#define BESIDE 46340
+
+/* Sightings on one line of 10 m along x. */
+static void sightings(void)
+{
+    uint8_t *file = copy_of(k, sizeof k);
+    uint8_t *run = room_of(CREST_RUN_BYTES);
+    uint8_t before[CREST_RUN_BYTES];
+
+    /* From (4/5, 3/5) a quarter to the left: (-3/5, 4/5), 1000 grains of it from (1112, -500). */
+    memset(run, 0, CREST_RUN_BYTES);
+    expect("sighting", crest_sighting_reading(file, sizeof k, 1112, -500, FOUR, THREE, 0, ONE, 1000, run, CREST_RUN_BYTES), 0);
+    hold("station, offset, residual", get32(run + ONE_AT) == 5 && get32(run + TWO_AT) == 300 && get32(run + THREE_AT) == 12);
+    expect("to the right", crest_sighting_reading(file, sizeof k, -88, 1100, FOUR, THREE, 0, -ONE, 1000, run, CREST_RUN_BYTES), 0);
+    hold("station, offset, residual", get32(run + ONE_AT) == 5 && get32(run + TWO_AT) == 300 && get32(run + THREE_AT) == 12);
+    expect("backwards", crest_sighting_reading(file, sizeof k, 1312, 900, -ONE, 0, FOUR, THREE, 1000, run, CREST_RUN_BYTES), 0);
+    hold("station, offset, residual", get32(run + ONE_AT) == 5 && get32(run + TWO_AT) == 300 && get32(run + THREE_AT) == 12);
+    expect("no distance", crest_sighting_reading(file, sizeof k, 700, -40, FOUR, THREE, FOUR, THREE, 0, run, CREST_RUN_BYTES), 0);
+    hold("the instrument's place", get32(run + ONE_AT) == 7 && get32(run + TWO_AT) == -40 && get32(run + THREE_AT) == 0);
+    expect("the longest", crest_sighting_reading(file, sizeof k, 300 - LONGEST_SIGHT, 9, ONE, 0, ONE, 0, LONGEST_SIGHT, run,
+                                                 CREST_RUN_BYTES), 0);
+    hold("the longest sighting", get32(run + ONE_AT) == 3 && get32(run + TWO_AT) == 9 && get32(run + THREE_AT) == 0);
+    expect("pairs whose turned one is no unit", crest_sighting_reading(file, sizeof k, 300 - LONGEST_SIGHT, 0, ONE, BESIDE, ONE,
+                                                                       BESIDE, LONGEST_SIGHT, run, CREST_RUN_BYTES), 0);
+    hold("no unit turned", get32(run + ONE_AT) == 3 && get32(run + TWO_AT) == 4316 && get32(run + THREE_AT) == 0);
+    /* 2^19 beside the axis, which over 1024 grains is half a grain: up, from -1/2 too. */
+    expect("half a grain", crest_sighting_reading(file, sizeof k, 0, 0, ONE, 0, ONE - 128, 1 << 19, 1024, run, CREST_RUN_BYTES), 0);
+    hold("half a grain goes up", get32(run + ONE_AT) == 10 && get32(run + TWO_AT) == 1 && get32(run + THREE_AT) == 24);
+    expect("half back", crest_sighting_reading(file, sizeof k, 0, 0, ONE, 0, ONE - 128, -(1 << 19), 1024, run, CREST_RUN_BYTES), 0);
+    hold("minus half a grain goes to 0", get32(run + ONE_AT) == 10 && get32(run + TWO_AT) == 0 && get32(run + THREE_AT) == 24);
+    hold("eight answers", get16(run + ANSWERED_AT) == 8 && get16(run + REFUSED_AT) == 0);
+
+    expect("before the start", crest_sighting_reading(file, sizeof k, -501, 0, ONE, 0, ONE, 0, 400, run, CREST_RUN_BYTES), 13);
+    hold("no stale values", all(run + ONE_AT, CREST_RUN_BYTES - ONE_AT, 0) && get16(run + LATEST_AT) == 13);
+    hold("first refusal", get16(run + FIRST_AT) == 13 && get16(run + FIRST_READING_AT) == 9);
+    expect("past the end", crest_sighting_reading(file, sizeof k, 999701, 0, ONE, 0, ONE, 0, 400, run, CREST_RUN_BYTES), 14);
+    expect("too far", crest_sighting_reading(file, sizeof k, 0, 20000001, ONE, 0, ONE, 0, 500, run, CREST_RUN_BYTES), 12);
+    expect("point at the edge", crest_sighting_reading(file, sizeof k, FRAME - 1, 0, ONE, 0, ONE, 0, 1, run, CREST_RUN_BYTES), 12);
+    expect("point outside", crest_sighting_reading(file, sizeof k, FRAME, 0, ONE, 0, ONE, 0, 1, run, CREST_RUN_BYTES), 11);
+    expect("negative", crest_sighting_reading(file, sizeof k, FRAME, 0, ONE, 0, ONE, 0, -1, run, CREST_RUN_BYTES), 15);
+    expect("too long", crest_sighting_reading(file, sizeof k, 0, 0, ONE, 0, ONE, 0, LONGEST_SIGHT + 1, run, CREST_RUN_BYTES), 15);
+    expect("least", crest_sighting_reading(file, sizeof k, 0, 0, ONE, 0, ONE, 0, INT32_MIN, run, CREST_RUN_BYTES), 15);
+    expect("place outside", crest_sighting_reading(file, sizeof k, 0, -FRAME - 1, ONE, 0, ONE, 0, -1, run, CREST_RUN_BYTES), 11);
+    expect("place far outside", crest_sighting_reading(file, sizeof k, INT32_MIN, 0, ONE, 0, ONE, 0, 9, run, CREST_RUN_BYTES), 11);
+    expect("no backsight", crest_sighting_reading(file, sizeof k, FRAME + 1, 0, 0, 0, ONE, 0, -1, run, CREST_RUN_BYTES), 7);
+    expect("no angle", crest_sighting_reading(file, sizeof k, FRAME + 1, 0, ONE, 0, ONE, BESIDE + 1, -1, run, CREST_RUN_BYTES), 7);
+    expect("the least numbers", crest_sighting_reading(file, sizeof k, INT32_MIN, INT32_MIN, INT32_MIN, INT32_MIN, INT32_MIN,
+                                                       INT32_MIN, INT32_MIN, run, CREST_RUN_BYTES), 7);
+    expect("sighting on no card", crest_sighting_reading(NULL, 0, 0, 0, 0, 0, 0, 0, 0, run, CREST_RUN_BYTES), 1);
+    file[100] = 1;
+    expect("sighting on a damaged card", crest_sighting_reading(file, sizeof k, 0, 0, 0, 0, 0, 0, 0, run, CREST_RUN_BYTES), 2);
+    file[100] = 0;
+    hold("counts", get16(run + ANSWERED_AT) == 8 && get16(run + REFUSED_AT) == 15);
+    hold("first refusal kept", get16(run + FIRST_AT) == 13 && get16(run + FIRST_READING_AT) == 9);
+    hold("zero bytes untouched", all(run + SPARE_AT, ONE_AT - SPARE_AT, 0));
+    end_room("run of sightings", run, CREST_RUN_BYTES);
+
+    run = room_of(CREST_RUN_BYTES);
+    memset(run, 0xff, CREST_RUN_BYTES);
+    memcpy(before, run, CREST_RUN_BYTES);
+    expect("full run", crest_sighting_reading(file, sizeof k, 0, 0, ONE, 0, ONE, 0, 0, run, CREST_RUN_BYTES), 16);
+    expect("full run", crest_sighting_reading(NULL, 0, FRAME + 1, 0, 0, 0, 0, 0, -1, run, CREST_RUN_BYTES), 16);
+    hold("full run unchanged", memcmp(before, run, CREST_RUN_BYTES) == 0);
+    end_room("full run of sightings", run, CREST_RUN_BYTES);
+    expect("no run", crest_sighting_reading(file, sizeof k, 0, 0, ONE, 0, ONE, 0, 0, NULL, 0), 18);
+    free(file);
+}
+
+static void sighted_stakes(void)
+{
+    size_t len;
+    uint8_t *move;
+    expect("no move", crest_sighting_stake_out(1112, -500, FOUR, THREE, 0, ONE, 1000, 612, 500, NULL, 0), 18);
+    expect("nothing right", crest_sighting_stake_out(FRAME + 1, 0, 0, 0, 0, 0, -1, 0, FRAME + 1, NULL, 0), 18);
+    for (len = 0; len < 20; len++) {
+        /* The prism is at (512, 300), the way back to the instrument is (3/5, -4/5), and the target is (100, 200) farther. */
+        move = room_of(len);
+        expect("move", crest_sighting_stake_out(1112, -500, FOUR, THREE, 0, ONE, 1000, 612, 500, move, len),
+               len == CREST_MOVE_BYTES ? 0 : 18);
+        hold("move", len == CREST_MOVE_BYTES ? is_move(move, -100, 200) : all(move, len, 0x5a));
+        end_room("move", move, len);
+    }
+    move = room_of(CREST_MOVE_BYTES);
+    expect("no backsight", crest_sighting_stake_out(FRAME + 1, 0, 0, 0, ONE, 0, -1, FRAME + 1, 0, move, CREST_MOVE_BYTES), 7);
+    expect("no angle", crest_sighting_stake_out(FRAME + 1, 0, ONE, 0, ONE + 1, 0, -1, FRAME + 1, 0, move, CREST_MOVE_BYTES), 7);
+    expect("place outside", crest_sighting_stake_out(0, FRAME + 1, ONE, 0, ONE, 0, -1, FRAME + 1, 0, move, CREST_MOVE_BYTES), 11);
+    expect("negative", crest_sighting_stake_out(FRAME, 0, ONE, 0, ONE, 0, -1, FRAME + 1, 0, move, CREST_MOVE_BYTES), 15);
+    expect("too long", crest_sighting_stake_out(0, 0, ONE, 0, ONE, 0, LONGEST_SIGHT + 1, 0, 0, move, CREST_MOVE_BYTES), 15);
+    expect("point outside", crest_sighting_stake_out(FRAME, 0, ONE, 0, ONE, 0, 1, 0, 0, move, CREST_MOVE_BYTES), 11);
+    expect("target outside", crest_sighting_stake_out(0, 0, ONE, 0, ONE, 0, 1, 0, -FRAME - 1, move, CREST_MOVE_BYTES), 11);
+    expect("target far outside", crest_sighting_stake_out(0, 0, ONE, 0, ONE, 0, 1, INT32_MIN, 0, move, CREST_MOVE_BYTES), 11);
+    hold("refused moves leave the room", all(move, CREST_MOVE_BYTES, 0x5a));
+    /* The instrument looks along x, so the crew looks against it. */
+    expect("across the frame", crest_sighting_stake_out(-FRAME, -FRAME, ONE, 0, ONE, 0, 0, FRAME, FRAME, move, CREST_MOVE_BYTES), 0);
+    hold("across the frame", is_move(move, -2 * FRAME, -2 * FRAME));
+    expect("the longest", crest_sighting_stake_out(0, 0, 0, ONE, 0, -ONE, LONGEST_SIGHT, 0, 30, move, CREST_MOVE_BYTES), 0);
+    hold("back to the instrument", is_move(move, LONGEST_SIGHT, -30));
+    expect("a turned pair that is no unit", crest_sighting_stake_out(0, 0, ONE, BESIDE, ONE, BESIDE, 1000, 1100, 200, move,
+                                                                    CREST_MOVE_BYTES), 0);
+    hold("under no unit", is_move(move, -100, -200));
+    end_room("move of a sighting", move, CREST_MOVE_BYTES);
 }
 
 /* Both sorts of reading in every floating-point mode, four ways of rounding with subnormals kept, flushed or taken as zero, as in
@@ -358,6 +467,8 @@ int main(void)
     checks();
     readings();
     stakes();
+    sightings();
+    sighted_stakes();
     modes();
     printf("calls.c calls %u differences %u\n", calls, surprises);
     return surprises != 0;

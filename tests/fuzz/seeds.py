@@ -15,10 +15,11 @@ sys.path.insert(0, str(ROOT / "reference"))
 import crest  # noqa: E402
 from crest import MOST_COUNTED, MOST_RECORDS, PER_BLOCK, RUN_SIZE, WIDEST_OFFSET  # noqa: E402
 from random_crests import AXES, Wish, random_file, random_point, random_station, random_unit  # noqa: E402
+from random_sightings import random_sighting, random_target  # noqa: E402
 
 COUNTS = (1, 2, 3, 7, *(PER_BLOCK * full + by for full, by in ((1, 0), (1, 1), (2, 0), (2, 1), (3, 1))), MOST_RECORDS)
 CHECK, WRITE, PLANE, LINE, ACKNOWLEDGE, RUN, STAKE_OUT = 0, 1, 2, 4, 6, 7, 8
-POSITION, LOCATE, INVERSE = 10, 11, 12
+POSITION, LOCATE, INVERSE, SIGHTING, SIGHTING_STAKE_OUT = 10, 11, 12, 13, 15
 
 
 def damage(rng, file):
@@ -34,6 +35,7 @@ def calls(rng, alignment):
     point, station = random_point(rng, alignment), random_station(rng, alignment)
     offset = rng.choice((0, rng.randint(-300, 300), WIDEST_OFFSET, -WIDEST_OFFSET - 1))
     heading = rng.choice((*AXES, random_unit(rng)))
+    sighting = random_sighting(rng, alignment)
     made = [
         struct.pack("<BB", CHECK, place),
         struct.pack("<BBBB", WRITE, 0, 0, rng.randrange(256)) + lent,
@@ -45,6 +47,8 @@ def calls(rng, alignment):
         struct.pack("<BBI", POSITION, 1, station) + room + lent,
         struct.pack("<BBii", LOCATE, 1, *point) + room + lent,
         struct.pack("<BBIBi", INVERSE, 1, station, 1, offset) + room + lent,
+        struct.pack("<B7i", SIGHTING, *sighting) + lent,
+        struct.pack("<B9i", SIGHTING_STAKE_OUT, *sighting, *random_target(rng, sighting)) + room + lent[:1],
     ]
     rng.shuffle(made)
     counts = 0, 1, MOST_COUNTED // 2, MOST_COUNTED - 1

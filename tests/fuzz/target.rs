@@ -17,8 +17,8 @@
 //! Damage is a choice of 8, how many bytes; for each its place and the byte; and a byte whose bits say which blocks' sums are
 //! made right again.
 //!
-//! Then calls, as long as bytes are left and at most 64. All readings and acknowledgements are made on one run, at first
-//! fresh; what one call left is what the next is lent. By a choice of 13:
+//! Then calls, as long as bytes are left and at most 64. All readings, sightings and acknowledgements are made on one run, at
+//! first fresh; what one call left is what the next is lent. By a choice of 17:
 //!
 //!     0       crest_check
 //!     1       crest_write; by a choice of 4: 0, 1 the crest's records; 2 cut or filled to a length below 2,601; 3 a length
@@ -32,11 +32,13 @@
 //!     11      probe_locate
 //!     12      probe_inverse; the probes by a choice of 2 with numbers of 4 bytes each or those of Random, the inverse's
 //!             station and offset by one each
+//!     13 | 14 crest_sighting_reading: 13 with seven i32 of 4 bytes each, 14 with Random::sighting
+//!     15 | 16 crest_sighting_stake_out: 15 with nine i32 of 4 bytes each, 16 with Random::sighting_and_target
 //!
-//! 3, 5 and the probes' numbers of Random are taken near the crest before its damage; where it was not accepted, numbers are
+//! 3, 5, 14 and the probes' numbers of Random are taken near the crest before its damage; where it was not accepted, numbers are
 //! of 4 or 8 bytes and there is no choice of 2 but that of the offset.
 //!
-//! After a call's numbers, what it is lent, in this order: the room of stake-out or a probe, by a choice of 4: a length below
+//! After a call's numbers, what it is lent, in this order: the room of a stake-out or a probe, by a choice of 4: a length below
 //! 64, Random::lent, or else of the size asked for, and but for Random::lent a byte that its content begins with; a choice of 16
 //! that shifts the room or the run; for a crest or records a choice of 3: at the end of a page that is followed by one that
 //! cannot be read, at the start of a page that follows such a one, or in between at an odd address.
@@ -51,17 +53,17 @@ use std::slice;
 use crest_tests::compare::{hex, Compare};
 use crest_tests::random::Random;
 use crest_tests::rules::{
-    self, Crest, Reading, Refusal, BLOCK_SIZE, LAST_NUMBER, MOST_BLOCKS, MOVE_SIZE, PER_BLOCK, PLACE_UNIT, RECORDS_END,
-    RECORD_SIZE, RUN_SIZE, USED_AT,
+    self, Crest, Observation, Reading, Refusal, Sighting, BLOCK_SIZE, LAST_NUMBER, MOST_BLOCKS, MOVE_SIZE, PER_BLOCK, PLACE_UNIT,
+    RECORDS_END, RECORD_SIZE, RUN_SIZE, USED_AT,
 };
-use crest_tests::{acknowledge, check, inverse, locate, position, reading, stake_out, write};
+use crest_tests::{acknowledge, check, inverse, locate, observe, position, sighting_stake_out, stake_out, write};
 
 const CALLS: usize = 64;
 const WALKED: i128 = 2_000_000;
 const LONGEST: usize = 2_601;
 
 /// The exported functions, and the refusal numbers that each can give.
-pub const FUNCTIONS: [(&str, &[usize]); 9] = [
+pub const FUNCTIONS: [(&str, &[usize]); 11] = [
     ("crest_check", &[1, 2, 3, 4, 5, 6, 7, 8, 9]),
     ("crest_write", &[4, 5, 6, 7, 8, 9, 17, 18]),
     ("crest_plane_reading", &[1, 2, 3, 4, 5, 6, 7, 8, 9, 10, 11, 12, 13, 14, 16, 18]),
@@ -71,6 +73,8 @@ pub const FUNCTIONS: [(&str, &[usize]); 9] = [
     ("probe_position", &[1, 2, 3, 4, 5, 6, 7, 8, 9, 15, 18]),
     ("probe_locate", &[1, 2, 3, 4, 5, 6, 7, 8, 9, 11, 12, 13, 14, 18]),
     ("probe_inverse", &[1, 2, 3, 4, 5, 6, 7, 8, 9, 11, 15, 18]),
+    ("crest_sighting_reading", &[1, 2, 3, 4, 5, 6, 7, 8, 9, 11, 12, 13, 14, 15, 16, 18]),
+    ("crest_sighting_stake_out", &[7, 11, 15, 18]),
 ];
 const CHECK: usize = 0;
 const WRITE: usize = 1;
@@ -81,6 +85,8 @@ const STAKE_OUT: usize = 5;
 const POSITION: usize = 6;
 const LOCATE: usize = 7;
 const INVERSE: usize = 8;
+const SIGHTING: usize = 9;
+const SIGHTING_STAKE_OUT: usize = 10;
 
 /// How often each function gave each number, and the differences.
 #[derive(Default)]
@@ -196,7 +202,7 @@ struct Calls<'a> {
 impl Calls<'_> {
     fn one(&mut self, fence: &mut Fence) {
         let near = self.near.clone();
-        match (self.random.below(13), &near) {
+        match (self.random.below(17), &near) {
             (0, _) => {
                 let file = fence.lend(&self.file, &mut self.random);
                 let got = check(file);
@@ -207,19 +213,19 @@ impl Calls<'_> {
             (1, _) => self.write(fence),
             (3, Some(crest)) => {
                 let asked = self.random.plane_point(crest);
-                self.reading(fence, asked);
+                self.observe(fence, Observation::Read(asked));
             }
             (2 | 3, _) => {
                 let asked = Reading::PlanePoint(self.f64(), self.f64());
-                self.reading(fence, asked);
+                self.observe(fence, Observation::Read(asked));
             }
             (5, Some(crest)) => {
                 let asked = self.random.line_place(crest);
-                self.reading(fence, asked);
+                self.observe(fence, Observation::Read(asked));
             }
             (4 | 5, _) => {
                 let asked = Reading::LinePlace(self.f64(), self.f64());
-                self.reading(fence, asked);
+                self.observe(fence, Observation::Read(asked));
             }
             (6, _) => {
                 let shift = self.random.below(16);
@@ -269,6 +275,22 @@ impl Calls<'_> {
                     );
                 }
             }
+            (14, Some(crest)) => {
+                let asked = self.random.sighting(crest);
+                self.observe(fence, Observation::Sighted(asked));
+            }
+            (13 | 14, _) => {
+                let asked = self.sighting();
+                self.observe(fence, Observation::Sighted(asked));
+            }
+            (15, _) => {
+                let (asked, target) = (self.sighting(), self.pair());
+                self.sighting_stake_out(asked, target);
+            }
+            (16, _) => {
+                let (asked, target) = self.random.sighting_and_target();
+                self.sighting_stake_out(asked, target);
+            }
             _ => {
                 let station = self.station(&near);
                 let offset = if self.random.one_in(2) { self.random.offset() } else { self.i32() };
@@ -290,6 +312,10 @@ impl Calls<'_> {
 
     fn pair(&mut self) -> (i32, i32) {
         (self.i32(), self.i32())
+    }
+
+    fn sighting(&mut self) -> Sighting {
+        Sighting { place: self.pair(), backsight: self.pair(), angle: self.pair(), distance: self.i32() }
     }
 
     fn f64(&mut self) -> f64 {
@@ -365,7 +391,7 @@ impl Calls<'_> {
     fn on_run(
         &mut self,
         function: usize,
-        asked: Option<Reading>,
+        asked: Option<Observation>,
         shift: usize,
         call: impl FnOnce(&mut [u8]) -> u32,
         rules: impl FnOnce(&mut [u8]) -> u32,
@@ -389,15 +415,25 @@ impl Calls<'_> {
         self.count(function, value);
     }
 
-    fn reading(&mut self, fence: &mut Fence, asked: Reading) {
-        let function = if matches!(asked, Reading::PlanePoint(..)) { PLANE } else { LINE_PLACE };
-        if function == PLANE && !self.may_walk() {
+    fn observe(&mut self, fence: &mut Fence, asked: Observation) {
+        let function = match asked {
+            Observation::Read(Reading::PlanePoint(..)) => PLANE,
+            Observation::Read(Reading::LinePlace(..)) => LINE_PLACE,
+            Observation::Sighted(_) => SIGHTING,
+        };
+        if function != LINE_PLACE && !self.may_walk() {
             return;
         }
         let shift = self.random.below(16);
         let file = fence.lend(&self.file, &mut self.random);
         let told = self.told.clone();
-        self.on_run(function, Some(asked), shift, |run| reading(file, asked, run), |run| rules::reading_call(&told, asked, run));
+        self.on_run(
+            function,
+            Some(asked),
+            shift,
+            |run| observe(file, asked, run),
+            |run| rules::observation_call(&told, asked, run),
+        );
         self.only_read(function, file == self.file);
     }
 
@@ -422,6 +458,19 @@ impl Calls<'_> {
             |room| rules::stake_out_call(own, target, heading, room),
         );
         self.count(STAKE_OUT, value);
+    }
+
+    fn sighting_stake_out(&mut self, asked: Sighting, target: (i32, i32)) {
+        let before = self.room(MOVE_SIZE);
+        let shift = self.random.below(16);
+        let value = self.compare.room(
+            || format!("crest_sighting_stake_out {asked:?}, target {target:?}"),
+            &before,
+            shift,
+            |room| sighting_stake_out(asked, target, room),
+            |room| rules::sighting_stake_out_call(asked, target, room),
+        );
+        self.count(SIGHTING_STAKE_OUT, value);
     }
 
     fn probe<Q: Copy + std::fmt::Debug>(

@@ -5,7 +5,7 @@ use std::env;
 use crate::random::Random;
 use crate::Room;
 
-/// All calls of a run of the tests, shared out among the functions; CREST_CALLS gives another number.
+/// The calls that shares are thousandths of; CREST_CALLS gives another number.
 const CALLS: u64 = 2_000_000;
 
 pub struct Compare {

@@ -31,6 +31,32 @@ pub mod raw {
             r#move: *mut u8,
             move_len: usize,
         ) -> u32;
+        pub fn crest_sighting_reading(
+            crest: *const u8,
+            crest_len: usize,
+            station_x: i32,
+            station_y: i32,
+            backsight_c: i32,
+            backsight_s: i32,
+            angle_c: i32,
+            angle_s: i32,
+            distance: i32,
+            run: *mut u8,
+            run_len: usize,
+        ) -> u32;
+        pub fn crest_sighting_stake_out(
+            station_x: i32,
+            station_y: i32,
+            backsight_c: i32,
+            backsight_s: i32,
+            angle_c: i32,
+            angle_s: i32,
+            distance: i32,
+            target_x: i32,
+            target_y: i32,
+            r#move: *mut u8,
+            move_len: usize,
+        ) -> u32;
         pub fn crest_acknowledge(run: *mut u8, run_len: usize) -> u32;
         pub fn probe_position(crest: *const u8, crest_len: usize, station: u32, out: *mut u8, out_len: usize) -> u32;
         pub fn probe_locate(crest: *const u8, crest_len: usize, x: i32, y: i32, out: *mut u8, out_len: usize) -> u32;
@@ -79,6 +105,51 @@ pub fn reading(crest: &[u8], reading: rules::Reading, run: &mut [u8]) -> u32 {
 
 pub fn stake_out(own: (i32, i32), target: (i32, i32), heading: (i32, i32), room: &mut [u8]) -> u32 {
     unsafe { raw::crest_stake_out(own.0, own.1, target.0, target.1, heading.0, heading.1, lent_mut(room), room.len()) }
+}
+
+pub fn sighting_reading(crest: &[u8], sighting: rules::Sighting, run: &mut [u8]) -> u32 {
+    let rules::Sighting { place, backsight, angle, distance } = sighting;
+    unsafe {
+        raw::crest_sighting_reading(
+            lent(crest),
+            crest.len(),
+            place.0,
+            place.1,
+            backsight.0,
+            backsight.1,
+            angle.0,
+            angle.1,
+            distance,
+            lent_mut(run),
+            run.len(),
+        )
+    }
+}
+
+pub fn observe(crest: &[u8], asked: rules::Observation, run: &mut [u8]) -> u32 {
+    match asked {
+        rules::Observation::Read(asked) => reading(crest, asked, run),
+        rules::Observation::Sighted(asked) => sighting_reading(crest, asked, run),
+    }
+}
+
+pub fn sighting_stake_out(sighting: rules::Sighting, target: (i32, i32), room: &mut [u8]) -> u32 {
+    let rules::Sighting { place, backsight, angle, distance } = sighting;
+    unsafe {
+        raw::crest_sighting_stake_out(
+            place.0,
+            place.1,
+            backsight.0,
+            backsight.1,
+            angle.0,
+            angle.1,
+            distance,
+            target.0,
+            target.1,
+            lent_mut(room),
+            room.len(),
+        )
+    }
 }
 
 pub fn acknowledge(run: &mut [u8]) -> u32 {

@@ -2,10 +2,11 @@
 //! from a small deterministic generator or from bytes that are given.
 
 use crate::rules::{
-    self, put_i32, put_sums, put_u16, put_u32, Crest, Element, Reading, ANSWERED_AT, ARC, BLOCK_SIZE, C_AT, EDITION, EDITION_AT,
-    ENTRY, EXIT, FARTHEST, FIELDS_AT, FIRST_AT, FRAME, KIND_AT, LINE, LONGEST_ELEMENT, MOST_BLOCKS, MOST_COUNTED, MOST_RECORDS,
-    ONE, PAST_END, PER_BLOCK, RADIUS_AT, RECORDS_END, RECORD_LENGTH_AT, RECORD_SIZE, REFUSED_AT, RUN_SIZE, SUMS_AT, SUM_B_AT,
-    S_AT, UNIT_SLACK, UNIT_SQUARE, USED_AT, WIDEST, WIDEST_GAP, WIDEST_KINK, WIDEST_OFFSET, X_AT, Y_AT, ZEROS_AT,
+    self, put_i32, put_sums, put_u16, put_u32, Crest, Element, Reading, Sighting, ANSWERED_AT, ARC, BLOCK_SIZE, C_AT, EDITION,
+    EDITION_AT, ENTRY, EXIT, FARTHEST, FIELDS_AT, FIRST_AT, FRAME, KIND_AT, LINE, LONGEST_ELEMENT, LONGEST_SIGHT, MOST_BLOCKS,
+    MOST_COUNTED, MOST_RECORDS, ONE, PAST_END, PER_BLOCK, RADIUS_AT, RECORDS_END, RECORD_LENGTH_AT, RECORD_SIZE, REFUSED_AT,
+    RUN_SIZE, SUMS_AT, SUM_B_AT, S_AT, UNIT_SLACK, UNIT_SQUARE, USED_AT, WIDEST, WIDEST_GAP, WIDEST_KINK, WIDEST_OFFSET, X_AT,
+    Y_AT, ZEROS_AT,
 };
 
 /// The farthest distance answered, in grains.
@@ -136,17 +137,22 @@ impl Random {
             }
             2 | 3 => {
                 let k = 15 + self.below(9);
-                let (a, b) = (self.sign() * (ONE - (1 << (2 * k)) / (2 * ONE)), self.sign() * (1 << k));
-                if self.one_in(2) {
-                    (a, b)
-                } else {
-                    (b, a)
-                }
+                self.beside_axis(k)
             }
             _ => {
                 let angle = self.angle();
                 unit_along(angle.cos(), angle.sin())
             }
+        }
+    }
+
+    /// A direction 2^k beside an axis.
+    fn beside_axis(&mut self, k: usize) -> (i128, i128) {
+        let (a, b) = (self.sign() * (ONE - (1 << (2 * k)) / (2 * ONE)), self.sign() * (1 << k));
+        if self.one_in(2) {
+            (a, b)
+        } else {
+            (b, a)
         }
     }
 
@@ -544,6 +550,125 @@ impl Random {
         (c as i32, s as i32)
     }
 
+    // ---- Sightings
+
+    /// A sighting whose point lies as point_near has it, or one with something wrong.
+    pub fn sighting(&mut self, crest: &Crest) -> Sighting {
+        let point = self.point_near(crest);
+        self.sighting_of(point)
+    }
+
+    /// A sighting and the target of its stake.
+    pub fn sighting_and_target(&mut self) -> (Sighting, (i32, i32)) {
+        let ((x, y), target) = self.own_and_target();
+        (self.sighting_of((x.into(), y.into())), target)
+    }
+
+    /// A sighting of this point, or one with something wrong.
+    fn sighting_of(&mut self, point: (i128, i128)) -> Sighting {
+        let mut sighting = if self.one_in(3) { self.sighting_by_place(point) } else { self.sighting_by_turn(point) };
+        match self.below(20) {
+            0 => sighting.backsight = self.heading(),
+            1 => sighting.angle = self.heading(),
+            2 => sighting.place = (self.coordinate(), self.coordinate()),
+            3 => sighting.distance = self.wrong_distance(),
+            4 => {
+                // Anything may be wrong, and several at once.
+                sighting = Sighting {
+                    place: (self.coordinate(), self.coordinate()),
+                    backsight: self.heading(),
+                    angle: self.heading(),
+                    distance: if self.one_in(3) { self.wrong_distance() } else { self.distance() as i32 },
+                };
+            }
+            5 => {
+                // The instrument stands at a corner of the frame or a few grains within, and the prism is as near to it.
+                sighting = Sighting {
+                    place: (
+                        (self.sign() * (FRAME - self.between(0, 2))) as i32,
+                        (self.sign() * (FRAME - self.between(0, 2))) as i32,
+                    ),
+                    backsight: narrow(self.axis()),
+                    angle: narrow(self.axis()),
+                    distance: self.between(0, 3) as i32,
+                };
+            }
+            _ => {}
+        }
+        sighting
+    }
+
+    /// The pairs and the distance are chosen, and the instrument stands where they lead to exactly this point: on the other
+    /// side of it where that place does not lie in the frame.
+    fn sighting_by_turn(&mut self, point: (i128, i128)) -> Sighting {
+        let (backsight, angle) = match self.below(10) {
+            0 | 1 => (self.axis(), self.unit()),
+            2 | 3 => (self.unit(), self.axis()),
+            // A component of the turned pair is an exact half.
+            4 => (self.beside_axis(19), self.beside_axis(22)),
+            _ => (self.unit(), self.unit()),
+        };
+        let distance = self.distance();
+        let mut sighting =
+            Sighting { place: (0, 0), backsight: narrow(backsight), angle: narrow(angle), distance: distance as i32 };
+        let from = |sighting: &Sighting| {
+            let (x, y) = sighting.end();
+            (point.0 - x, point.1 - y)
+        };
+        let mut place = from(&sighting);
+        if !rules::in_frame(place.0, place.1) {
+            sighting.angle = narrow((-angle.0, -angle.1));
+            place = from(&sighting);
+        }
+        sighting.place = narrow(place);
+        sighting
+    }
+
+    /// The instrument's place and the backsight are chosen, and the angle and the distance are those of this point as an
+    /// instrument has them: rounded, so that they lead to a grain or so of it.
+    fn sighting_by_place(&mut self, (x, y): (i128, i128)) -> Sighting {
+        let reach = self.of(&[300, 20_000, 2_000_000, LONGEST_SIGHT]);
+        let place = if self.one_in(6) {
+            (self.sign() * FRAME, self.sign() * FRAME)
+        } else {
+            let near = |at: i128, by: i128| (at + by).clamp(-FRAME, FRAME);
+            (near(x, self.between(-reach, reach)), near(y, self.between(-reach, reach)))
+        };
+        let (dx, dy) = (x - place.0, y - place.1);
+        let (b, g) = self.unit();
+        let angle = match (b * dx + g * dy, b * dy - g * dx) {
+            (0, 0) => (ONE, 0),
+            (along, aside) => unit_along(along as f64, aside as f64),
+        };
+        let distance = (dx as f64).hypot(dy as f64).round() as i128;
+        Sighting { place: narrow(place), backsight: narrow((b, g)), angle: narrow(angle), distance: narrow((distance, 0)).0 }
+    }
+
+    /// A direction along an axis.
+    fn axis(&mut self) -> (i128, i128) {
+        self.of(&[(ONE, 0), (0, ONE), (-ONE, 0), (0, -ONE)])
+    }
+
+    /// A distance that is taken: at the ends of the range, an odd multiple of a power of two, short, or any.
+    fn distance(&mut self) -> i128 {
+        match self.below(8) {
+            0 => self.of(&[0, 1, LONGEST_SIGHT - 1, LONGEST_SIGHT]),
+            1 | 2 => self.odd_multiple(LONGEST_SIGHT).abs(),
+            3 | 4 => self.between(0, 20_000),
+            _ => self.between(0, LONGEST_SIGHT),
+        }
+    }
+
+    /// A distance that mostly is not taken.
+    fn wrong_distance(&mut self) -> i32 {
+        let beyond = LONGEST_SIGHT as i32 + 1;
+        if self.one_in(4) {
+            self.bits() as i32
+        } else {
+            self.of(&[-1, beyond, -beyond, i32::MIN, i32::MAX])
+        }
+    }
+
     /// A run's bytes: fresh, full or nearly, or anything.
     pub fn run(&mut self) -> Vec<u8> {
         let mut run = if self.one_in(3) { vec![0; RUN_SIZE] } else { self.bytes(RUN_SIZE) };
@@ -575,6 +700,12 @@ impl Random {
             self.bytes(len)
         }
     }
+}
+
+/// A pair as a call takes it: the nearest numbers of 32 bits.
+fn narrow((first, second): (i128, i128)) -> (i32, i32) {
+    let narrow = |number: i128| number.clamp(i32::MIN.into(), i32::MAX.into()) as i32;
+    (narrow(first), narrow(second))
 }
 
 /// Whole numbers of length ONE along a direction.

@@ -93,6 +93,16 @@ fn null_with_length_0() {
             compare.value(|| "line".into(), raw::crest_line_reading(k.as_ptr(), k.len(), whole, 0.0, null_mut(), 0), 18);
             compare.value(|| "line".into(), raw::crest_line_reading(null(), 0, whole, 0.0, run.as_mut_ptr(), run.len()), 1);
         }
+        for distance in [0, -1] {
+            let one = ONE as i32;
+            let sighted =
+                |crest, len, run, run_len| raw::crest_sighting_reading(crest, len, 0, 0, one, 0, one, 0, distance, run, run_len);
+            compare.value(|| "sighting".into(), sighted(null(), 0, null_mut(), 0), 18);
+            compare.value(|| "sighting".into(), sighted(k.as_ptr(), k.len(), null_mut(), 0), 18);
+            compare.value(|| "sighting".into(), sighted(null(), 0, run.as_mut_ptr(), run.len()), 1);
+            let moved = raw::crest_sighting_stake_out(0, 0, one, 0, one, 0, distance, 100, 200, null_mut(), 0);
+            compare.value(|| "stake-out of a sighting".into(), moved, 18);
+        }
         compare.value(|| "stake-out".into(), raw::crest_stake_out(0, 0, 100, 200, 0, ONE as i32, null_mut(), 0), 18);
         compare.value(|| "acknowledge".into(), raw::crest_acknowledge(null_mut(), 0), 18);
         compare.value(|| "position".into(), raw::probe_position(null(), 0, 0, null_mut(), 0), 18);
@@ -105,7 +115,7 @@ fn null_with_length_0() {
         compare.value(|| "record".into(), raw::probe_record(null(), 0, 0, room.as_mut_ptr(), RECORD_SIZE), 1);
     }
     compare.holds(|| "room unchanged".into(), room == [7; BLOCK_SIZE] && out == [7; 16]);
-    // Four readings were counted, each refused with 1.
-    compare.holds(|| format!("run {run:?}"), run == [0, 0, 4, 0, 1, 0, 1, 0, 1, 0, 0, 0, 0, 0, 0, 0, 0, 0, 0, 0, 0, 0, 0, 0]);
+    // Four readings and two sightings were counted, each refused with 1.
+    compare.holds(|| format!("run {run:?}"), run == [0, 0, 6, 0, 1, 0, 1, 0, 1, 0, 0, 0, 0, 0, 0, 0, 0, 0, 0, 0, 0, 0, 0, 0]);
     compare.done();
 }

@@ -1,15 +1,39 @@
-//! crest_plane_reading, crest_line_reading and crest_acknowledge: each by itself, in any order on one run, and to a full run.
+//! crest_plane_reading, crest_line_reading, crest_sighting_reading and crest_acknowledge: each by itself, in any order on one run,
+//! and to a full run.
 
 use crest_tests::compare::{hex, Compare};
 use crest_tests::random::{record_of, Random};
 use crest_tests::rules::{
-    self, Crest, Element, Reading, ANSWERED_AT, FIRST_AT, FIRST_READING_AT, LAST_NUMBER, LATEST_AT, LINE, MOST_COUNTED, ONE,
-    ONE_AT, PLACE_UNIT, REFUSED_AT, RUN_SIZE, SPARE_AT,
+    self, Crest, Element, Observation, Reading, Sighting, ANSWERED_AT, FIRST_AT, FIRST_READING_AT, LAST_NUMBER, LATEST_AT, LINE,
+    MOST_COUNTED, ONE, ONE_AT, PLACE_UNIT, REFUSED_AT, RUN_SIZE, SPARE_AT,
 };
-use crest_tests::{acknowledge, reading};
+use crest_tests::{acknowledge, observe};
 
-/// Readings of one sort on runs of any state and bytes of any number.
-fn readings(name: &'static str, thousandths: u64, make: fn(&mut Random, &Crest) -> Reading, given: &[usize]) {
+fn plane_point(random: &mut Random, crest: &Crest) -> Observation {
+    Observation::Read(random.plane_point(crest))
+}
+
+fn line_place(random: &mut Random, crest: &Crest) -> Observation {
+    Observation::Read(random.line_place(crest))
+}
+
+fn sighting(random: &mut Random, crest: &Crest) -> Observation {
+    Observation::Sighted(random.sighting(crest))
+}
+
+/// The point that is looked for on a crest, where nothing refuses it before.
+fn point_of(asked: Observation) -> Option<(i128, i128)> {
+    match asked {
+        Observation::Read(Reading::PlanePoint(x, y)) => {
+            Some((rules::whole(x.to_bits())?, rules::whole(y.to_bits())?)).filter(|&(x, y)| rules::in_frame(x, y))
+        }
+        Observation::Read(Reading::LinePlace(..)) => None,
+        Observation::Sighted(sighting) => sighting.point().ok(),
+    }
+}
+
+/// Readings or sightings on runs of any state and bytes of any number.
+fn readings(name: &'static str, thousandths: u64, make: fn(&mut Random, &Crest) -> Observation, given: &[usize]) {
     let mut compare = Compare::share(name, thousandths);
     let mut random = compare.random();
     let mut seen = [0; LAST_NUMBER + 1];
@@ -31,24 +55,20 @@ fn readings(name: &'static str, thousandths: u64, make: fn(&mut Random, &Crest) 
                 || format!("{asked:?} on file {}", hex(file)),
                 &run,
                 shift,
-                |run| reading(file, asked, run),
-                |run| rules::reading_call(&told, asked, run),
+                |run| observe(file, asked, run),
+                |run| rules::observation_call(&told, asked, run),
             );
             seen[(value % PLACE_UNIT) as usize] += 1;
             // The station that the walk finds is the least of least D among all.
-            if let (Reading::PlanePoint(x, y), Ok(crest)) = (asked, &told) {
+            if let (Some(point), Ok(crest)) = (point_of(asked), &told) {
                 if crest.total <= 300 && random.one_in(4) {
-                    if let (Some(x), Some(y)) = (rules::whole(x.to_bits()), rules::whole(y.to_bits())) {
-                        if rules::in_frame(x, y) {
-                            let walked = crest.walk((x, y));
-                            let judged = crest.judged((x, y));
-                            searched += 1;
-                            compare.holds(
-                                || format!("{asked:?} on file {}: judged {judged:?}, {walked:?}", hex(file)),
-                                judged == (walked.station, walked.least),
-                            );
-                        }
-                    }
+                    let walked = crest.walk(point);
+                    let judged = crest.judged(point);
+                    searched += 1;
+                    compare.holds(
+                        || format!("{asked:?} on file {}: judged {judged:?}, {walked:?}", hex(file)),
+                        judged == (walked.station, walked.least),
+                    );
                 }
             }
         }
@@ -63,12 +83,17 @@ fn readings(name: &'static str, thousandths: u64, make: fn(&mut Random, &Crest) 
 
 #[test]
 fn crest_plane_reading() {
-    readings("crest_plane_reading", 180, Random::plane_point, &[0, 1, 2, 3, 4, 5, 6, 7, 8, 9, 10, 11, 12, 13, 14, 16, 18]);
+    readings("crest_plane_reading", 180, plane_point, &[0, 1, 2, 3, 4, 5, 6, 7, 8, 9, 10, 11, 12, 13, 14, 16, 18]);
 }
 
 #[test]
 fn crest_line_reading() {
-    readings("crest_line_reading", 130, Random::line_place, &[0, 1, 2, 3, 4, 5, 6, 7, 8, 9, 10, 11, 15, 16, 18]);
+    readings("crest_line_reading", 130, line_place, &[0, 1, 2, 3, 4, 5, 6, 7, 8, 9, 10, 11, 15, 16, 18]);
+}
+
+#[test]
+fn crest_sighting_reading() {
+    readings("crest_sighting_reading", 130, sighting, &[0, 1, 2, 3, 4, 5, 6, 7, 8, 9, 11, 12, 13, 14, 15, 16, 18]);
 }
 
 #[test]
@@ -86,7 +111,7 @@ fn crest_acknowledge() {
 /// Calls in any order on one run that began fresh, and after each what the run says of its history.
 #[test]
 fn any_order() {
-    let mut compare = Compare::share("any_order", 70);
+    let mut compare = Compare::share("any_order", 90);
     let mut random = compare.random();
     while compare.more() {
         let mut run = vec![0; RUN_SIZE];
@@ -114,17 +139,18 @@ fn any_order() {
                 );
                 first = None;
             } else {
-                let asked = if random.one_in(2) { random.plane_point(&crest) } else { random.line_place(&crest) };
+                let make = random.of(&[plane_point, line_place, sighting]);
+                let asked = make(&mut random, &crest);
                 let value = compare.room(
                     || format!("{asked:?} on file {}", hex(file)),
                     &before,
                     shift,
                     |room| {
-                        let value = reading(file, asked, room);
+                        let value = observe(file, asked, room);
                         run.copy_from_slice(room);
                         value
                     },
-                    |room| rules::reading_call(told, asked, room),
+                    |room| rules::observation_call(told, asked, room),
                 );
                 latest = (value % PLACE_UNIT) as u16;
                 if latest == 0 {
@@ -147,7 +173,7 @@ fn any_order() {
     compare.done();
 }
 
-/// A fresh run takes 65,535 readings and no more.
+/// A fresh run takes 65,535 readings and sightings, and no more.
 #[test]
 fn full_run() {
     let mut compare = Compare::cases("full_run");
@@ -156,18 +182,24 @@ fn full_run() {
     let mut run = vec![0; RUN_SIZE];
     let mut random = compare.random();
     for number in 1..=MOST_COUNTED + 65 {
-        let asked = Reading::LinePlace(random.below(14) as f64, 300.0);
+        let station = random.below(14);
+        let asked = if random.one_in(2) {
+            Observation::Read(Reading::LinePlace(station as f64, 300.0))
+        } else {
+            let (ahead, distance) = ((ONE as i32, 0), 100 * station as i32);
+            Observation::Sighted(Sighting { place: (0, 300), backsight: ahead, angle: ahead, distance })
+        };
         let before = run.clone();
         let value = compare.room(
             || format!("{asked:?}"),
             &before,
             0,
             |room| {
-                let value = reading(&file, asked, room);
+                let value = observe(&file, asked, room);
                 run.copy_from_slice(room);
                 value
             },
-            |room| rules::reading_call(&told, asked, room),
+            |room| rules::observation_call(&told, asked, room),
         );
         compare.holds(|| format!("reading {number} is taken: {value}"), (value == 16) == (number > MOST_COUNTED));
     }

@@ -16,7 +16,7 @@ from .files import Trouble, input_name, read
 from .joins import crest_of
 from .tables import COORDINATE, LENGTH, Rounding
 
-MOST_BYTES = 50_000_000
+MOST_BYTES = 50 * 10**6  # of a file
 MOST_LISTED = 20  # faults of a message, and names
 MOST_PARTS = library.FILE_BYTES_MAX // library.RECORD_BYTES  # no crest file has room for more records
 GRAINS_PER_M, MM_PER_M = units.COORDINATE["m"][0], units.LENGTH["m"][0]

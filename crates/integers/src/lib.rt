@@ -1,4 +1,6 @@
 // Whole-number arithmetic in 64 bits, each function equal to a definition over unbounded whole numbers.
+#![tactic(auto)]
+
 ghost use Rattle.std.specs.Prelude.{◌≡◌, ◌^◌, ◌<◌, unsigned_abs};
 ghost use Rattle.integers.specs.Floor.{floor_div};
 ghost use Rattle.integers.specs.Root.{root};

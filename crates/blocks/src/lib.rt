@@ -1,4 +1,6 @@
 // One block of a crest file: its sums and its fields, and the block written into lent room.
+#![tactic(auto)]
+
 ghost use Rattle.std.specs.Prelude.{◌++◌, ◌≡◌, ◌≤◌, ◌<◌, length};
 ghost use Rattle.model.specs.Records.{block_size, records_end, sums_at, put, u16_bytes, sum_a, sum_b};
 ghost use Rattle.model.specs.Acceptance.{sums_agree, use_fits, fields_fit};

@@ -1,4 +1,6 @@
 // What a C call returns and writes: an answer's number and place in 32 bits, and numbers of 32 bits in lent bytes.
+#![tactic(auto)]
+
 ghost use Rattle.std.specs.Prelude.{◌≡◌, ◌+◌, ◌≤◌, length};
 ghost use Rattle.std.specs.Int.{w32};
 ghost use Rattle.std.proofs.Common.{SFits};

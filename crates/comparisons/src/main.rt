@@ -1,6 +1,8 @@
 // Compares the library with the reference's vectors on standard input, and says of each sort how many rows there are and how many
 // differ, of those that are right and of those that are wrong: 0 and all. The input is rows, whose layout is in reference/rows.py;
 // what a row's part of the store holds, earlier rows brought.
+#![tactic(auto)]
+
 ghost use Rattle.std.specs.Prelude.{◌≡◌, ◌≤◌};
 ghost use Rattle.comparisons.specs.Agreement.{row_agrees};
 

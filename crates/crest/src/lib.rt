@@ -1,4 +1,6 @@
 // The calls of the logger's C firmware: numbers and lent bytes.
+#![tactic(auto)]
+
 ghost use Rattle.std.specs.Prelude.{false, ◌≡◌, length};
 ghost use Rattle.model.specs.declared.Reading.TheVariants.{PlanePoint, LinePlace};
 ghost use Rattle.model.specs.Crest.{file_crest};

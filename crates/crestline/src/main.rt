@@ -1,4 +1,6 @@
 // The program: station, offset and residual of each reading on a crest.
+#![tactic(auto)]
+
 fn main() {
     console::run();
 }

@@ -1,4 +1,6 @@
 // Exported for measurement: many stations of one element, which is prepared once, and many whole square roots.
+#![tactic(auto)]
+
 ghost use Rattle.std.specs.Prelude.{◌≡◌, ◌*◌, ◌^◌, ◌<◌, ◌≤◌, nat_abs, ◌+ℤ◌};
 ghost use Rattle.model.specs.Series.{position_on};
 ghost use Rattle.elements.specs.Prepared.{Ready};

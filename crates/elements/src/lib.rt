@@ -1,5 +1,7 @@
 // Position and direction on one element, in 64 bits, equal to the definitions of `model` for every accepted element.
 // What depends on the element alone is prepared once; a station is then computed from magnitudes.
+#![tactic(auto)]
+
 ghost use Rattle.std.specs.Prelude.{◌≡◌, ◌^◌, ◌≤◌, pos, nat_abs, ◌+ℤ◌, ◌*ℤ◌};
 ghost use Rattle.integers.specs.Signs.{sign_of};
 ghost use Rattle.model.specs.Rounding.{ONE, near};

@@ -1,5 +1,7 @@
 // The entries for callers in Rattle, of a crest file: bytes are lent, numbers and answers go by value, and a run by value or in place. Each answer is the one
 // that document 01 defines, and `paper` says the same by its number, place and values.
+#![tactic(auto)]
+
 ghost use Rattle.std.specs.Prelude.{[], ◌≡◌, length};
 ghost use Rattle.model.specs.Writer.{writer_outcome, written};
 ghost use Rattle.model.specs.Crest.{file_crest, check_of};

@@ -1,4 +1,6 @@
 // Lent bytes: their little-endian fields, and their parts.
+#![tactic(auto)]
+
 pub mod eight;
 pub mod parts;
 

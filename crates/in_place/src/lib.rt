@@ -1,4 +1,6 @@
 // The run record, lent by the caller and changed where it lies: each by-value step, behind a reference.
+#![tactic(auto)]
+
 ghost use Rattle.std.specs.Prelude.{◌≡◌};
 ghost use Rattle.model.specs.Crest.{file_crest};
 ghost use Rattle.model.specs.Answers.{asked_paper};

@@ -1,4 +1,6 @@
 // The joins of a crest: gaps and kinks between an element and the next.
+#![tactic(auto)]
+
 ghost use Rattle.std.specs.Prelude.{[], ◌≡◌, leb, nat_abs, ◌-ℤ◌};
 ghost use Rattle.model.specs.Refusals.{verdict};
 ghost use Rattle.model.specs.Acceptance.{close_by, each_join};

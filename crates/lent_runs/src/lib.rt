@@ -1,4 +1,6 @@
 // A run of the caller's own, lent to be changed where it lies.
+#![tactic(auto)]
+
 ghost use Rattle.std.specs.Prelude.{◌≡◌};
 ghost use Rattle.model.specs.Crest.{file_crest};
 ghost use Rattle.model.specs.Sightings.{observed_to};

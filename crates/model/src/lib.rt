@@ -1,5 +1,7 @@
 // The types of the crest library, what a kind byte says, the shape and the anchor of a kind, a refusal as an outcome, and document 01's
 // numbers under their names: layout, limits, refusals, units. Every definition of document 01 over them is in specs/.
+#![tactic(auto)]
+
 ghost use Rattle.std.specs.Prelude.{[], ◌≡◌};
 ghost use Rattle.model.specs.Kinds.{decide, shape_of, anchored_far};
 ghost use Rattle.model.specs.Answers.{paper_if, paper_of_outcome};

@@ -1,4 +1,6 @@
 // Station and offset of a point by the published walk.
+#![tactic(auto)]
+
 ghost use Rattle.std.specs.Prelude.{[], ◌≡◌};
 ghost use Rattle.model.specs.Answers.{paper_after, point_question, located_on, paper_of_located};
 ghost use Rattle.sources.specs.Sources.{elements_lent, SourceAccepted};

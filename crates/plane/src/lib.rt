@@ -1,4 +1,6 @@
 // Points and directions of the plane: a point of two numbers, whether it lies in the frame, and whether a direction is a unit.
+#![tactic(auto)]
+
 ghost use Rattle.std.specs.Prelude.{◌≡◌};
 ghost use Rattle.model.specs.Acceptance.{in_frame, is_unit};
 

@@ -1,4 +1,6 @@
 // Calls for tests and tools: a crest's bytes, a question in numbers, and room for the answer; and the bytes of a record, copied.
+#![tactic(auto)]
+
 ghost use Rattle.std.specs.Prelude.{◌≡◌, length, pos};
 ghost use Rattle.model.specs.Crest.{file_crest};
 ghost use Rattle.probes.specs.Replies.{reply_of_placed, reply_of_located, reply_of_inverse, reply_code, reply_bytes, Sendable};

@@ -1,4 +1,6 @@
 // One record of a crest: its element, and its refusals.
+#![tactic(auto)]
+
 ghost use Rattle.std.specs.Prelude.{[], ◌≡◌, ◌+◌, ◌≤◌, ◌&&◌, leb, length};
 ghost use Rattle.model.specs.Kinds.{decide};
 ghost use Rattle.model.specs.Records.{record_size, i32_at};

@@ -1,4 +1,6 @@
 // The run record from and to the 24 bytes that a C caller lends.
+#![tactic(auto)]
+
 ghost use Rattle.std.specs.Prelude.{◌≡◌, length};
 ghost use Rattle.model.specs.Run.{run_size, run_at, run_bytes};
 

@@ -1,4 +1,6 @@
 // A sighting: its own refusals, its point with the direction to it, and the move of a stake that was sighted.
+#![tactic(auto)]
+
 ghost use Rattle.std.specs.Prelude.{[], ◌≡◌, ◌+ℤ◌, ◌*ℤ◌};
 ghost use Rattle.model.specs.Rounding.{ONE, near};
 ghost use Rattle.model.specs.Refusals.{verdict};

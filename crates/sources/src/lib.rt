@@ -1,4 +1,6 @@
 // A crest as its lent bytes and how to read them. Records are read where they lie: only the forms know where that is.
+#![tactic(auto)]
+
 ghost use Rattle.std.specs.Prelude.{[], ◌≡◌, ◌+◌, ◌≤◌, ◌<◌, length};
 ghost use Rattle.model.specs.Records.{record_size, most_records, part, record_of};
 ghost use Rattle.model.specs.Refusals.{verdict};

@@ -1,4 +1,6 @@
 // The stake-out: how far to move a stake to its target, forward along the heading and to the left of it.
+#![tactic(auto)]
+
 ghost use Rattle.std.specs.Prelude.{[], ◌≡◌};
 ghost use Rattle.model.specs.Answers.{paper_after, forward_of, left_of, move_question, stake_out, paper_of_move};
 ghost use Rattle.stakes.specs.StakeRanges.{Stakeable};

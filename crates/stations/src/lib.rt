@@ -1,4 +1,6 @@
 // Stations of an accepted crest: how far they run, where one lies, and what is asked by station.
+#![tactic(auto)]
+
 ghost use Rattle.std.specs.Prelude.{◌&&◌, [], ◌≡◌, ◌≤◌, ◌<◌, ◌^◌, leb, nat_abs, ◌*ℤ◌};
 ghost use Rattle.model.specs.Acceptance.{longest_alignment};
 ghost use Rattle.model.specs.Stations.{at_element, at_station, position_at, tangent_at, is_station, total as total_of};

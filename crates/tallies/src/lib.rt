@@ -1,4 +1,6 @@
 // How many comparisons are done and how many of them differ, for each sort of them, with rows that are right and with rows that are wrong.
+#![tactic(auto)]
+
 ghost use Rattle.std.specs.Prelude.{◌≡◌, ◌<◌};
 ghost use Rattle.tallies.specs.Compared.{tally_of, nothing_compared, compared, counted_at};
 

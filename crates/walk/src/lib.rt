@@ -1,4 +1,6 @@
 // The published walk: what both passes over a crest have seen of a point.
+#![tactic(auto)]
+
 ghost use Rattle.std.specs.Prelude.{◌≡◌};
 ghost use Rattle.plane.specs.Frame.{InFrame};
 ghost use Rattle.sources.specs.Sources.{elements_lent, SourceAccepted};

@@ -47,7 +47,7 @@ source r rs w e = go r.holds refl e
     go true h f = from_rest h f
     go false h f = from_first h (cc)
 
-pub lacks→not_given : {rs : List Rule} {w : Refusal} → Lacks w.number rs → verdict rs ≡ Refused w → ⊥
+pub lacks→not_given : {w : Refusal} {rs : List Rule} → Lacks w.number rs → verdict rs ≡ Refused w → ⊥
 unfolding verdict
 lacks→not_given empty e = clash cc
 lacks→not_given {w} (other {r} {rs} h l) e = go (lacks→not_given l) (source r rs w e)

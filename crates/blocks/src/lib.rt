@@ -10,7 +10,7 @@ use fields::parts::{all_zero, clear_at, copy_at};
 use model::layout;
 
 // The two sums of a block, modulo 65,536.
-#[derive(Drop)]
+#[derive(Clone, Copy)]
 struct Sums {
     a: u16,
     b: u16,

@@ -47,7 +47,7 @@ const BYTES: u8 = 10;
 const RUN: u8 = 11;
 
 // What a row comes to. One that is cut off, of no known sort or with a part past the store is compared with nothing.
-#[derive(Drop)]
+#[derive(Clone, Copy)]
 enum Came {
     Same,
     Different,
@@ -55,14 +55,14 @@ enum Came {
 }
 
 // That, and the run by value after it.
-#[derive(Drop)]
+#[derive(Clone, Copy)]
 struct Step {
     came: Came,
     run: Run,
 }
 
 // What the rows so far came to, and the run by value after them.
-#[derive(Drop)]
+#[derive(Clone, Copy)]
 struct State {
     tallies: Tallies,
     run: Run,

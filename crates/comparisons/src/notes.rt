@@ -13,7 +13,7 @@ use model::{Display, Observation, Reading, ReadingAnswer, Run, Sighting};
 use run_bytes::run_at;
 
 // Whether a call agrees with its row, and the run after it.
-#[derive(Drop)]
+#[derive(Clone, Copy)]
 pub struct Told {
     pub same: bool,
     pub run: Run,

@@ -24,7 +24,7 @@ fn check_length(len: usize) -> Outcome
 }
 
 // The checks that each block goes through: 2, its sums, and 3, its fields.
-#[derive(Drop)]
+#[derive(Clone, Copy)]
 enum BlockCheck {
     Sums,
     Fields,

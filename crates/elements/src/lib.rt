@@ -20,7 +20,7 @@ mod series;
 
 // What depends on the element alone: the divisor of the angle with what is added before the division, what is taken off for a
 // half of a number with the sign of the radius, and the axes along which the magnitudes of u and of v count.
-#[derive(Drop)]
+#[derive(Clone, Copy)]
 pub struct Prepared {
     pub element: Element,
     pub off: u64,
@@ -33,7 +33,7 @@ pub struct Prepared {
 }
 
 // Position and direction at a station.
-#[derive(Drop)]
+#[derive(Clone, Copy)]
 pub struct Placement {
     pub x: i64,
     pub y: i64,

@@ -12,7 +12,7 @@ use model::units::{GRAINS, ONE};
 use rounding::near_even;
 
 // The numbers of F(a; b, d).
-#[derive(Drop)]
+#[derive(Clone, Copy)]
 pub struct Factor {
     pub a: u64,
     pub b: u64,
@@ -20,7 +20,7 @@ pub struct Factor {
 }
 
 // The factors of u and of v, and the divisor of v.
-#[derive(Drop)]
+#[derive(Clone, Copy)]
 pub struct CurveNumbers {
     pub along: Factor,
     pub aside: Factor,
@@ -52,7 +52,7 @@ const COSINE: Factor = Factor { a: 2, b: 1, d: 12 };
 const SINE: Factor = Factor { a: 6, b: 1, d: 20 };
 
 // The magnitudes of the angle t, of u and of v.
-#[derive(Drop)]
+#[derive(Clone, Copy)]
 pub struct Magnitudes {
     pub angle: u64,
     pub along: u64,
@@ -60,7 +60,7 @@ pub struct Magnitudes {
 }
 
 // The magnitudes of the components of a direction in the element's own frame.
-#[derive(Drop)]
+#[derive(Clone, Copy)]
 pub struct Components {
     pub along: u64,
     pub aside: u64,

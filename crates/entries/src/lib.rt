@@ -21,7 +21,7 @@ pub use run::acknowledge;
 use sources::{Form, no_amendment};
 
 // What a reading or a sighting on a run came to, its display pair, and the run afterwards.
-#[derive(Drop)]
+#[derive(Clone, Copy)]
 pub struct NotedReading {
     pub answer: ReadingAnswer,
     pub display: Display,

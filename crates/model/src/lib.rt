@@ -12,7 +12,7 @@ pub mod refusals;
 pub mod units;
 
 // The four kinds of element that are known.
-#[derive(Drop)]
+#[derive(Clone, Copy)]
 pub enum Kind {
     Line,
     Arc,
@@ -21,7 +21,7 @@ pub enum Kind {
 }
 
 // The shape of an element's curve.
-#[derive(Drop)]
+#[derive(Clone, Copy)]
 pub enum Shape {
     Straight,
     Circular,
@@ -53,7 +53,7 @@ pub fn anchored_far(kind: Kind) -> bool
 }
 
 // What a kind byte says.
-#[derive(Drop)]
+#[derive(Clone, Copy)]
 pub enum KindByte {
     Damaged,
     Known(Kind),
@@ -76,7 +76,7 @@ pub fn kind_of(byte: u8) -> KindByte
 
 // An element as its record gives it: length and radius in mm, anchor in grains (document 01: 100 grains to 1 mm),
 // direction at the anchor.
-#[derive(Drop)]
+#[derive(Clone, Copy)]
 pub struct Element {
     pub kind: Kind,
     pub length: u64,
@@ -88,21 +88,21 @@ pub struct Element {
 }
 
 // A point of the plane, in grains.
-#[derive(Drop)]
+#[derive(Clone, Copy)]
 pub struct Point {
     pub x: i64,
     pub y: i64,
 }
 
 // A refusal: its number in document 01's table, and its place.
-#[derive(Drop)]
+#[derive(Clone, Copy)]
 pub struct Refusal {
     pub number: u32,
     pub place: u32,
 }
 
 // What a check, a reader's part or a writer comes to.
-#[derive(Drop)]
+#[derive(Clone, Copy)]
 pub enum Outcome {
     Done,
     Refused(Refusal),
@@ -117,14 +117,14 @@ pub fn refused(number: u32, place: u32) -> Outcome
 }
 
 // Position and direction at a station, or of what was sighted.
-#[derive(Drop)]
+#[derive(Clone, Copy)]
 pub enum Placed {
     At { x: i64, y: i64, tx: i64, ty: i64 },
     Refused(Refusal),
 }
 
 // Station and offset of a point, with the residual and the number of stations that were visited.
-#[derive(Drop)]
+#[derive(Clone, Copy)]
 pub enum Located {
     At {
         station: u64,
@@ -136,21 +136,21 @@ pub enum Located {
 }
 
 // The point at a station and an offset.
-#[derive(Drop)]
+#[derive(Clone, Copy)]
 pub enum Inverse {
     At { x: i64, y: i64 },
     Refused(Refusal),
 }
 
 // How far to move a stake: forward along the heading, and to its left.
-#[derive(Drop)]
+#[derive(Clone, Copy)]
 pub enum Move {
     By { forward: i64, left: i64 },
     Refused(Refusal),
 }
 
 // A reading from the logger.
-#[derive(Drop)]
+#[derive(Clone, Copy)]
 pub enum Reading {
     PlanePoint { x: f64, y: f64 },
     LinePlace { station: f64, offset: f64 },
@@ -158,7 +158,7 @@ pub enum Reading {
 
 // A sighting: the place of the instrument in grains, the direction to a backsight and the angle turned from it to the prism, each as cosine and
 // sine with ONE for 1, and the horizontal distance to the prism in grains.
-#[derive(Drop)]
+#[derive(Clone, Copy)]
 pub struct Sighting {
     pub x: i32,
     pub y: i32,
@@ -170,14 +170,14 @@ pub struct Sighting {
 }
 
 // What is put to a crest and counted on a run: a reading or a sighting.
-#[derive(Drop)]
+#[derive(Clone, Copy)]
 pub enum Observation {
     Read(Reading),
     Sighted(Sighting),
 }
 
 // What a reading or a sighting on a crest comes to.
-#[derive(Drop)]
+#[derive(Clone, Copy)]
 pub enum ReadingAnswer {
     PlanePoint {
         station: u64,
@@ -193,7 +193,7 @@ pub enum ReadingAnswer {
 }
 
 // Station and offset in millimetres, for the display.
-#[derive(Drop)]
+#[derive(Clone, Copy)]
 pub struct Display {
     pub station: f64,
     pub offset: f64,
@@ -202,7 +202,7 @@ pub struct Display {
 // The run record: how many readings were answered and refused, the number of the latest outcome with its three values,
 // and the first refusal since the last acknowledgement with the number of its reading.
 #[repr(C)]
-#[derive(Drop)]
+#[derive(Clone, Copy)]
 pub struct Run {
     pub answered: u16,
     pub refused: u16,
@@ -215,7 +215,7 @@ pub struct Run {
 }
 
 // What a reading or a sighting on a run came to, and the run afterwards.
-#[derive(Drop)]
+#[derive(Clone, Copy)]
 pub struct Noted {
     pub answer: ReadingAnswer,
     pub run: Run,

@@ -10,7 +10,7 @@ use elements::Placement;
 use model::{Point, limits};
 use rounding::near_sum;
 
-#[derive(Drop)]
+#[derive(Clone, Copy)]
 pub struct Sides {
     pub residual: i64,
     pub offset: i64,

@@ -22,7 +22,7 @@ const SLOT_A: usize = 0;
 const SLOT_C: usize = 8;
 
 // What is sent back: numbers of 32 bits for the room, or a refusal.
-#[derive(Drop)]
+#[derive(Clone, Copy)]
 pub enum Reply {
     Four { a: i64, b: i64, c: i64, d: i64 },
     Two { a: i64, b: i64 },

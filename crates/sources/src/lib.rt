@@ -16,7 +16,7 @@ use model::{Element, Outcome, refusals, refused};
 use records::check_record;
 
 // How the bytes of a crest are read: as a file, or as records one after the other, which the writer is lent. An amendment is lent beside them; neither form reads it.
-#[derive(Drop)]
+#[derive(Clone, Copy)]
 pub enum Form {
     File,
     Row,

@@ -18,7 +18,7 @@ use rounding::near_one;
 use sources::{Form, count_in, element_in};
 
 // Where a station lies: its element, with its number counted from 0, and the mm from the element's start.
-#[derive(Drop)]
+#[derive(Clone, Copy)]
 pub struct OnElement {
     pub number: usize,
     pub element: Element,

@@ -7,14 +7,14 @@ ghost use Rattle.tallies.specs.Compared.{tally_of, nothing_compared, compared, c
 // The sorts that have a tally of their own.
 const SORTS: u8 = 9;
 
-#[derive(Drop)]
+#[derive(Clone, Copy)]
 pub struct Tally {
     pub done: u64,
     pub differ: u64,
 }
 
 // The tallies of these sorts, each at its number, and at 0 that of all others: of rows that are right, and of rows that are wrong.
-#[derive(Drop)]
+#[derive(Clone, Copy)]
 pub struct Tallies {
     pub right: [Tally; 10],
     pub wrong: [Tally; 10],

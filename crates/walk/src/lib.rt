@@ -13,14 +13,14 @@ mod passes;
 mod visit;
 
 // The two passes of the walk.
-#[derive(Drop)]
+#[derive(Clone, Copy)]
 pub enum Pass {
     First,
     Second,
 }
 
 // What the walk has seen: the least squared distance, the least station that has it, and how many stations were visited.
-#[derive(Drop)]
+#[derive(Clone, Copy)]
 pub struct Seen {
     pub best: u64,
     pub at: u64,

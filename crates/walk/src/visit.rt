@@ -16,7 +16,7 @@ use model::{Point, limits};
 
 // The step to the next station: how many stations it leaves out, and for the steps after it the whole root b of the best and
 // the square of b + 31, below which none is left out. Where the limit is 0, the root is not taken yet.
-#[derive(Drop)]
+#[derive(Clone, Copy)]
 pub struct Stride {
     pub root: u64,
     pub limit: u64,

@@ -1,7 +1,6 @@
 -- `plane::in_frame` meets its contract: the code makes the two tests.
 use mathlib.Core.Path.{ap, ◌∙◌}
 use borrow.Author.Tests.{le-leb, lt-leb}
-use borrow.Author.Rules.{rules}
 use lib.IntN.{nat_abs}
 use mir.Facts.{to_z-of_z}
 use Rattle.model.specs.Acceptance.{in_frame}

@@ -1,7 +1,6 @@
 -- `plane::is_unit` meets its contract: a component above 2^31 is too long for a unit, and else the sum of the squares fits and is compared.
 use mathlib.Core.Path.{◌≡◌, sym, ap, ◌∙◌}
 use native.Mathlib.Omega.{arith}
-use borrow.Author.Rules.{rules}
 use lib.IntN.{nat_abs}
 use mir.Facts.{to_z-of_z}
 use Rattle.integers.specs.Plane.{squared}

@@ -1,6 +1,5 @@
 -- `plane::point` meets its contract: the casts keep both numbers.
 use Rattle.integers.proofs.Held.{wide_fits, widened}
-
 use Rattle.plane.proofs.point.Goals as goal
 
 pub overflow_cast-result : goal.overflow_cast-result

@@ -51,17 +51,17 @@ pub rising_from : {lo mid hi : ℕ} {ss : List ℕ} → lo ≤ mid → Rising hi
 rising_from h none = none
 rising_from h (next s l k r) = next s (le_trans h l) k r
 
-pub rising-++ : {lo mid hi : ℕ} {vs ws : List ℕ} → lo ≤ mid → mid ≤ hi → Rising mid lo vs → Rising hi mid ws → Rising hi lo (vs ++ ws)
+pub rising-++ : {mid lo hi : ℕ} {vs ws : List ℕ} → lo ≤ mid → mid ≤ hi → Rising mid lo vs → Rising hi mid ws → Rising hi lo (vs ++ ws)
 rising-++ h k none r = rising_from h r
 rising-++ h k (next s l m q) r = next s l (omega arith) (rising-++ (omega arith) k q r)
 
-pub rising_length : {lo hi : ℕ} {vs : List ℕ} → Rising hi lo vs → length vs ≤ hi - lo
+pub rising_length : {hi lo : ℕ} {vs : List ℕ} → Rising hi lo vs → length vs ≤ hi - lo
 rising_length none = omega arith
 rising_length (next s l k r) = omega (arith, rising_length r)
 
-pub rising_within : {lo hi : ℕ} {vs : List ℕ} → Rising hi lo vs → (s : ℕ) → is_in s vs ≡ true → (lo ≤ s) × (s < hi)
+pub rising_within : {hi lo : ℕ} {vs : List ℕ} → Rising hi lo vs → (s : ℕ) → is_in s vs ≡ true → (lo ≤ s) × (s < hi)
 rising_within none s e = absurd (not_in_none s e)
-rising_within {lo} {hi} (next {ss = vs} v l k r) s e = go (rising_within r s) (place s v vs)
+rising_within {hi} {lo} (next {ss = vs} v l k r) s e = go (rising_within r s) (place s v vs)
   where
     go : (is_in s vs ≡ true → (v + 1 ≤ s) × (s < hi)) → Place s v vs → (lo ≤ s) × (s < hi)
     go rest (here q i) = (omega arith, omega arith)
@@ -89,7 +89,7 @@ best_of_in-≤ d b (v ∷ vs) s e = go (best_of_in-≤ d (min b (d v)) vs s) (pl
     go rest (later q i) = rest (sym i ∙ e)
 
 -- what is at most b, and at most the d of every station of a list, is at most the best
-pub ≤-best_of : (d : ℕ → ℕ) (c b : ℕ) {lo hi : ℕ} {vs : List ℕ} → c ≤ b → Rising hi lo vs → ((s : ℕ) → s < hi → c ≤ d s) → c ≤ best_of d b vs
+pub ≤-best_of : (d : ℕ → ℕ) (c : ℕ) {hi : ℕ} (b : ℕ) {lo : ℕ} {vs : List ℕ} → c ≤ b → Rising hi lo vs → ((s : ℕ) → s < hi → c ≤ d s) → c ≤ best_of d b vs
 unfolding best_of
 ≤-best_of d c b h none low = h
 ≤-best_of d c b h (next s l k r) low = ≤-best_of d c (min b (d s)) (omega (arith, low s k)) r low

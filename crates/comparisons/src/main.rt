@@ -11,6 +11,8 @@ use crate::said::Row;
 use model::Run;
 use model::layout::RUN_SIZE;
 use run_bytes::run_at;
+use std::io;
+use std::io::Read;
 use tallies::{Tallies, Tally, counted, index};
 
 mod calls;
@@ -133,13 +135,19 @@ fn cut(run: Run) -> Step {
 }
 
 // Reads the rest of a row that compares.
-fn compared(sort: u8, part: &[u8], bytes: &mut [u8], run: Run) -> Step {
+fn compared<R: Read>(
+    input: &mut R,
+    sort: u8,
+    part: &[u8],
+    bytes: &mut [u8],
+    run: Run,
+) -> Step {
     let n = size(sort);
     if n == 0 {
         return cut(run);
     }
     let mut row = [0u8; 124];
-    if io::read_full(0, &mut row[0..n]) < n {
+    if input.read_exact(&mut row[0..n]).is_err() {
         return cut(run);
     }
     let told = agrees(sort, &row, part, bytes, run);
@@ -158,9 +166,8 @@ fn compared(sort: u8, part: &[u8], bytes: &mut [u8], run: Run) -> Step {
 }
 
 // Reads a part of the store.
-fn stored(part: &mut [u8], run: Run) -> Step {
-    let n = part.len();
-    if io::read_full(0, part) < n {
+fn stored<R: Read>(input: &mut R, part: &mut [u8], run: Run) -> Step {
+    if input.read_exact(part).is_err() {
         return cut(run);
     }
     Step {
@@ -170,12 +177,12 @@ fn stored(part: &mut [u8], run: Run) -> Step {
 }
 
 // Reads the run's bytes, and takes the run by value from them.
-fn begun(bytes: &mut [u8], run: Run) -> Step {
+fn begun<R: Read>(input: &mut R, bytes: &mut [u8], run: Run) -> Step {
     let n = bytes.len();
     if n < RUN_SIZE {
         return cut(run);
     }
-    if io::read_full(0, bytes) < n {
+    if input.read_exact(bytes).is_err() {
         return cut(run);
     }
     Step {
@@ -185,16 +192,24 @@ fn begun(bytes: &mut [u8], run: Run) -> Step {
 }
 
 // Reads the rest of a row whose part is from `at` to `end`.
-fn taken(sort: u8, at: usize, end: usize, store: &mut [u8], bytes: &mut [u8], run: Run) -> Step
+fn taken<R: Read>(
+    input: &mut R,
+    sort: u8,
+    at: usize,
+    end: usize,
+    store: &mut [u8],
+    bytes: &mut [u8],
+    run: Run,
+) -> Step
     requires { at ≤ end }
 {
     if store.len() < end {
         return cut(run);
     }
     match sort {
-        BYTES => stored(&mut store[at..end], run),
-        RUN => begun(bytes, run),
-        _ => compared(sort, &store[at..end], bytes, run),
+        BYTES => stored(input, &mut store[at..end], run),
+        RUN => begun(input, bytes, run),
+        _ => compared(input, sort, &store[at..end], bytes, run),
     }
 }
 
@@ -208,24 +223,35 @@ fn tallied(t: Tallies, sort: u8, wrong: bool, came: Came) -> Tallies {
 }
 
 // The row with this head.
-fn headed(head: &[u8; 6], store: &mut [u8], bytes: &mut [u8], run: Run) -> Step {
+fn headed<R: Read>(
+    input: &mut R,
+    head: &[u8; 6],
+    store: &mut [u8],
+    bytes: &mut [u8],
+    run: Run,
+) -> Step {
     let at = fields::u16_at(head, 2) as usize;
     let length = fields::u16_at(head, 4) as usize;
-    taken(head[0], at, at + length, store, bytes, run)
+    taken(input, head[0], at, at + length, store, bytes, run)
 }
 
 // The next row.
-fn next(state: State, store: &mut [u8; 65536], bytes: &mut [u8; 32]) -> State {
+fn next<R: Read>(
+    input: &mut R,
+    state: State,
+    store: &mut [u8; 65536],
+    bytes: &mut [u8; 32],
+) -> State {
     let t = state.tallies;
     let run = state.run;
     let mut head = [0u8; 6];
-    if io::read_full(0, &mut head) < 6 {
+    if input.read_exact(&mut head).is_err() {
         return State {
             tallies: tallied(t, 0, false, Came::Cut),
             run,
         };
     }
-    let step = headed(&head, store, bytes, run);
+    let step = headed(input, &head, store, bytes, run);
     let came = step.came;
     let after = step.run;
     State {
@@ -235,14 +261,14 @@ fn next(state: State, store: &mut [u8; 65536], bytes: &mut [u8; 32]) -> State {
 }
 
 // The next four bytes of the input as a number; 0 where it ends.
-fn number() -> u32 {
+fn number<R: Read>(input: &mut R) -> u32 {
     let mut bytes = [0u8; 4];
-    io::read_full(0, &mut bytes);
+    let _ = input.read_exact(&mut bytes);
     fields::u32_at(&bytes, 0)
 }
 
 // As many rows as the input says first.
-fn rows() -> Tallies {
+fn rows<R: Read>(input: &mut R) -> Tallies {
     let mut store = [0u8; 65536];
     let mut bytes = [0u8; 32];
     let mut state = State {
@@ -258,61 +284,59 @@ fn rows() -> Tallies {
             three: 0,
         },
     };
-    for _ in 0..number() {
-        state = next(state, &mut store, &mut bytes);
+    for _ in 0..number(input) {
+        state = next(input, state, &mut store, &mut bytes);
     }
     state.tallies
 }
 
 // Prints how many comparisons there are, and how many differ.
-fn say(what: &[u8], t: Tally) {
-    io::write_all(1, what);
-    io::print_decimal(1, t.done);
-    io::write_all(1, b" differ ");
-    io::print_decimal(1, t.differ);
+fn say(rt: &impl Print, what: &str, t: Tally) -> io::Result<()> {
+    print!(rt; "{what}{} differ {}", t.done, t.differ)
 }
 
 // Prints the tallies of a sort.
-fn say_sort(what: &[u8], right: Tally, wrong: Tally) {
-    say(what, right);
-    say(b", wrong ", wrong);
-    io::write_all(1, b"\n");
+fn say_sort(rt: &impl Print, what: &str, right: Tally, wrong: Tally) -> io::Result<()> {
+    say(rt, what, right)?;
+    say(rt, ", wrong ", wrong)?;
+    println!(rt;)
 }
 
 // Those of rows that ask no run.
-fn say_questions(t: Tallies) {
+fn say_questions(rt: &impl Print, t: Tallies) -> io::Result<()> {
     let right = t.right;
     let wrong = t.wrong;
-    say_sort(b"element rows ", right[1], wrong[1]);
-    say_sort(b"crest files ", right[2], wrong[2]);
-    say_sort(b"points ", right[3], wrong[3]);
-    say_sort(b"numbers ", right[4], wrong[4]);
+    say_sort(rt, "element rows ", right[1], wrong[1])?;
+    say_sort(rt, "crest files ", right[2], wrong[2])?;
+    say_sort(rt, "points ", right[3], wrong[3])?;
+    say_sort(rt, "numbers ", right[4], wrong[4])
 }
 
 // Those of calls, of display pairs, and of moves.
-fn say_calls(t: Tallies) {
+fn say_calls(rt: &impl Print, t: Tallies) -> io::Result<()> {
     let right = t.right;
     let wrong = t.wrong;
-    say_sort(b"calls ", right[5], wrong[5]);
-    say_sort(b"calls by value ", right[6], wrong[6]);
-    say_sort(b"calls in place ", right[7], wrong[7]);
-    say_sort(b"display pairs ", right[8], wrong[8]);
-    say_sort(b"sighted moves ", right[9], wrong[9]);
+    say_sort(rt, "calls ", right[5], wrong[5])?;
+    say_sort(rt, "calls by value ", right[6], wrong[6])?;
+    say_sort(rt, "calls in place ", right[7], wrong[7])?;
+    say_sort(rt, "display pairs ", right[8], wrong[8])?;
+    say_sort(rt, "sighted moves ", right[9], wrong[9])
 }
 
 // That of all other rows, where one differs.
-fn say_others(t: Tallies) {
+fn say_others(rt: &impl Print, t: Tallies) -> io::Result<()> {
     let right = t.right;
     let wrong = t.wrong;
     let others = right[0];
     if others.differ > 0 {
-        say_sort(b"other rows ", others, wrong[0]);
+        say_sort(rt, "other rows ", others, wrong[0])?;
     }
+    Ok(())
 }
 
-fn main() {
-    let t = rows();
-    say_questions(t);
-    say_calls(t);
-    say_others(t);
+fn main(rt: HostRuntime) -> io::Result<()> {
+    let t = rows(&mut rt.reader());
+    say_questions(&rt, t)?;
+    say_calls(&rt, t)?;
+    say_others(&rt, t)
 }

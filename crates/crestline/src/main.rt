@@ -1,6 +1,6 @@
 // The program: station, offset and residual of each reading on a crest.
 #![tactic(auto)]
 
-fn main() {
-    console::run();
+fn main(rt: HostRuntime) {
+    console::run(&rt);
 }

@@ -1,6 +1,6 @@
 // The program crestline, run on a crest of 20 elements with readings on standard input.
 #![tactic(auto)]
 
-fn main() {
-    console::run();
+fn main(rt: HostRuntime) {
+    console::run(&rt);
 }

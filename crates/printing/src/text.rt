@@ -8,7 +8,9 @@ pub(crate) fn put_word(room: &mut [u8], at: usize, word: &[u8]) -> usize
     ensures room_after { (result, room.new) ≡ puts room.old at word.now }
     ensures upper_bound { result ≤ at + length word.now }
 {
-    at + bytes::copy(word, &mut room[at..])
+    let end = at + word.len();
+    room[at..end].copy_from_slice(word);
+    end
 }
 
 // A number takes 20 bytes at most.

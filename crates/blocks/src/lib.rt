@@ -68,7 +68,7 @@ fn use_fits(n: usize, b: usize, used: usize) -> bool
 }
 
 // Whether block b of n has the fields that it must have, and zeros where nothing is in use.
-pub fn fields_fit_lem(n: usize, b: usize, block: &[u8]) -> bool
+pub fn fields_fit(n: usize, b: usize, block: &[u8]) -> bool
     requires block_len { length block.now ≡ block_size }
     requires b_lt_n { b < n }
     ensures { result ≡ fields_fit n b block.now }

@@ -21,8 +21,7 @@ use run_bytes::{put_run, run_at};
 use sources::{Form, no_amendment};
 
 // The check of a file.
-#[unsafe(no_mangle)]
-pub extern "C" fn crest_check(crest: &[u8]) -> u32
+pub fn crest_check(crest: &[u8]) -> u32
     ensures { result ≡ check_call (file_crest crest.now) }
 {
     let checked = entries::check(crest);
@@ -30,8 +29,7 @@ pub extern "C" fn crest_check(crest: &[u8]) -> u32
 }
 
 // The file of these records at the front of the room; a refusal leaves the room as it came.
-#[unsafe(no_mangle)]
-pub extern "C" fn crest_write(records: &[u8], room: &mut [u8]) -> u32
+pub fn crest_write(records: &[u8], room: &mut [u8]) -> u32
     ensures { (result, room.new) ≡ write_call records.now room.old }
 {
     let written = alignment::write::write(records, room);
@@ -39,8 +37,7 @@ pub extern "C" fn crest_write(records: &[u8], room: &mut [u8]) -> u32
 }
 
 // The move from a stake's own point to its target under a heading: 18 first, for room that is not 8 bytes.
-#[unsafe(no_mangle)]
-pub extern "C" fn crest_stake_out(
+pub fn crest_stake_out(
     own_x: i32,
     own_y: i32,
     target_x: i32,
@@ -64,8 +61,7 @@ pub extern "C" fn crest_stake_out(
 }
 
 // Only the first refusal and its reading go: 18 for bytes that are no run.
-#[unsafe(no_mangle)]
-pub extern "C" fn crest_acknowledge(run: &mut [u8]) -> u32
+pub fn crest_acknowledge(run: &mut [u8]) -> u32
     ensures { (result, run.new) ≡ acknowledge_call run.old }
 {
     let len = run.len();
@@ -158,24 +154,21 @@ fn note_sighting(crest: &[u8], sighting: Sighting, run: &mut [u8]) -> u32
 }
 
 // Station and offset of a plane point, counted on a run.
-#[unsafe(no_mangle)]
-pub extern "C" fn crest_plane_reading(crest: &[u8], x: f64, y: f64, run: &mut [u8]) -> u32
+pub fn crest_plane_reading(crest: &[u8], x: f64, y: f64, run: &mut [u8]) -> u32
     ensures { (result, run.new) ≡ reading_call (answer_to (file_crest crest.now) (PlanePoint x y)) run.old }
 {
     note_reading(crest, Reading::PlanePoint { x, y }, run)
 }
 
 // The point at a station and an offset, counted on a run.
-#[unsafe(no_mangle)]
-pub extern "C" fn crest_line_reading(crest: &[u8], station: f64, offset: f64, run: &mut [u8]) -> u32
+pub fn crest_line_reading(crest: &[u8], station: f64, offset: f64, run: &mut [u8]) -> u32
     ensures { (result, run.new) ≡ reading_call (answer_to (file_crest crest.now) (LinePlace station offset)) run.old }
 {
     note_reading(crest, Reading::LinePlace { station, offset }, run)
 }
 
 // Station and offset of the point of a sighting, counted on a run. (station_x, station_y) is the place of the instrument.
-#[unsafe(no_mangle)]
-pub extern "C" fn crest_sighting_reading(
+pub fn crest_sighting_reading(
     crest: &[u8],
     station_x: i32,
     station_y: i32,
@@ -204,8 +197,7 @@ pub extern "C" fn crest_sighting_reading(
 }
 
 // The move of a stake that was sighted to its target: 18 first, for room that is not 8 bytes.
-#[unsafe(no_mangle)]
-pub extern "C" fn crest_sighting_stake_out(
+pub fn crest_sighting_stake_out(
     station_x: i32,
     station_y: i32,
     backsight_c: i32,

@@ -6,7 +6,7 @@ ghost use Rattle.model.specs.Acceptance.{length_fits, blocks_rules};
 ghost use Rattle.crestfile.specs.BlockChecks.{block_rules, each_block};
 ghost use Rattle.model.specs.Answers.{paper_if, paper_of_outcome};
 
-use blocks::{fields_fit_lem, sums_agree};
+use blocks::{fields_fit, sums_agree};
 use fields::parts::part_at;
 use model::layout::{
     BLOCK_SIZE, FOUR_BLOCKS, PER_BLOCK, RECORD_SIZE, THREE_BLOCKS, TWO_BLOCKS, USED_AT,
@@ -44,7 +44,7 @@ fn check_block(what: BlockCheck, n: usize, b: usize, block: &[u8]) -> Outcome
             }
         }
         BlockCheck::Fields => {
-            if fields_fit_lem(n, b, block) {
+            if fields_fit(n, b, block) {
                 Outcome::Done
             } else {
                 refused(refusals::BLOCK_FIELD, b as u32)

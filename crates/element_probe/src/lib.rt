@@ -46,8 +46,7 @@ fn positions(p: Prepared, count: u32) -> i64
 }
 
 // The sum over `count` positions on the element of a record; 0 where the bytes are no accepted record.
-#[unsafe(no_mangle)]
-pub extern "C" fn element_positions(rec: &[u8], count: u32) -> i64
+pub fn element_positions(rec: &[u8], count: u32) -> i64
     ensures { result ≡ sum_over rec.now count }
 {
     if rec.len() != layout::RECORD_SIZE {
@@ -60,8 +59,7 @@ pub extern "C" fn element_positions(rec: &[u8], count: u32) -> i64
 }
 
 // The sum of `count` whole square roots, from that of high * 2^32 on.
-#[unsafe(no_mangle)]
-pub extern "C" fn root_sum(high: u32, count: u32) -> u64
+pub fn root_sum(high: u32, count: u32) -> u64
     ensures { result ≡ roots_from count («high» * 2 ^ 32) }
 {
     let first = high as u64 * 0x1_0000_0000;

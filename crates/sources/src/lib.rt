@@ -37,7 +37,7 @@ pub fn check_layout(crest: &[u8], amendment: &[u8], form: Form) -> Outcome
     match form {
         Form::File => check_blocks(crest),
         Form::Row => {
-            if count_fits_lem(crest.len()) {
+            if count_fits(crest.len()) {
                 Outcome::Done
             } else {
                 refused(refusals::RECORD_COUNT, 0)

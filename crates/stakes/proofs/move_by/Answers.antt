@@ -5,17 +5,17 @@ use mathlib.Core.Path.{◌≡◌, ap, ◌∙◌}
 use lib.IntN.{ℤ, pos, neg_ℤ, ◌+ℤ◌, ◌-ℤ◌, ◌*ℤ◌}
 use mir.Facts.{to_z-of_z}
 use mir.Syntax.{w64}
-use Rattle.integers.proofs.Machine.{Env, env, machine, fits_machine, by_machine, abs_machine}
+use Rattle.integers.proofs.Machine.{Env, env, machine, by_machine, abs_machine}
 use Rattle.integers.proofs.Held.{held}
 use Rattle.model.specs.Rounding.{ONE, near}
 use Rattle.model.specs.Acceptance.{frame}
 use Rattle.model.specs.Judged.{minus}
 use Rattle.model.specs.Answers.{forward_of, left_of}
 use Rattle.rounding.specs.Rounded.{Summable}
-use Rattle.stakes.proofs.move_by.Statement.{statement}
-use Rattle.stakes.proofs.move_by.Tie as tie
+use Rattle.stakes.proofs.move_by.Goals.{Start}
+use Rattle.stakes.proofs.move_by.Goals as goal
 
-module _ (c : tie.Start) where
+module _ (c : Start) where
   abbrev Γ : Env
   Γ =
       env (c.args.own.x ∷ c.args.own.y ∷ c.args.target.x ∷ c.args.target.y ∷ c.args.c ∷ c.args.s ∷ [])
@@ -57,33 +57,16 @@ module _ (c : tie.Start) where
   left : s' *ℤ dx' +ℤ held c.args.c *ℤ dy' ≡ neg_ℤ c.args.s *ℤ dx +ℤ c.args.c *ℤ dy
   left = by_machine Γ (search machine depth 20) (search machine depth 20) tt
 
-abbrev start : tie.After-struct-told4 → tie.Start
-start c = c.before.before.before.before.before.before.before.before
+pub near_sum-requires : goal.near_sum-requires
+near_sum-requires c = forward_asks (goal.at.near_sum-requires c).Start
 
-sub_dx : tie.Need-overflow-sub-dx
-sub_dx c = fits_machine (Γ c.before.before.before.before) (search machine depth 20) tt
+pub near_sum-requires-2 : goal.near_sum-requires-2
+near_sum-requires-2 c = left_asks (goal.at.near_sum-requires-2 c).Start
 
-sub_dy : tie.Need-overflow-sub-dy
-sub_dy c = fits_machine (Γ (start c)) (search machine depth 20) tt
-
-near_sum_requires : tie.Need-near-sum-requires
-near_sum_requires c κs = forward_asks (start c)
-
-sub_near_sum : tie.Need-overflow-sub-near-sum
-sub_near_sum c = fits_machine (Γ (start c.before)) (search machine depth 20) tt
-
-near_sum_requires_2 : tie.Need-near-sum-requires-2
-near_sum_requires_2 c κs = left_asks (start c.before)
-
-returns : tie.Need-returns
+pub returns : goal.returns
 unfolding forward_of left_of minus
 returns c =
-    let b = start c.before.before in
-    let f = to_z-of_z {w = w64} (record { sfits = c.before.near-sum.type-inv }) ∙ c.before.near-sum.ensures ∙ ap (λ (z : ℤ). near z ONE) (forward b) in
-    let l = to_z-of_z {w = w64} (record { sfits = c.near-sum2.type-inv }) ∙ c.near-sum2.ensures ∙ ap (λ (z : ℤ). near z ONE) (left b) in
+    let b = (goal.at.returns c).Start in
+    let f = to_z-of_z {w = w64} (record { sfits = c.near_sum.type_inv }) ∙ c.near_sum.ensures ∙ ap (λ (z : ℤ). near z ONE) (forward b) in
+    let l = to_z-of_z {w = w64} (record { sfits = c.near_sum-2.type_inv }) ∙ c.near_sum-2.ensures ∙ ap (λ (z : ℤ). near z ONE) (left b) in
     rw (f, l)
-
-pub move_by_spec : {M : Type 1} → statement M
-move_by_spec =
-    tie.close
-    (tie.spec sub_dx sub_dy near_sum_requires sub_near_sum near_sum_requires_2 returns)

@@ -5,13 +5,12 @@ use mathlib.Core.Path.{◌≡◌, ap, ◌∙◌}
 use lib.IntN.{ℤ, pos, neg_ℤ, ◌+ℤ◌, ◌-ℤ◌, ◌*ℤ◌}
 use mir.Facts.{to_z-of_z}
 use mir.Syntax.{w64}
-use Rattle.integers.proofs.Machine.{Env, env, machine, by_machine, abs_machine}
+use Rattle.integers.proofs.Machine.{Env, env, machine, by_machine}
 use Rattle.integers.proofs.Held.{held}
 use Rattle.model.specs.Rounding.{ONE, near}
 use Rattle.model.specs.Acceptance.{frame}
 use Rattle.model.specs.Judged.{minus}
 use Rattle.model.specs.Answers.{forward_of, left_of}
-use Rattle.rounding.specs.Rounded.{Summable}
 use Rattle.stakes.proofs.move_by.Goals.{Start}
 use Rattle.stakes.proofs.move_by.Goals as goal
 
@@ -38,30 +37,11 @@ module _ (c : Start) where
   abbrev s' : ℤ
   s' = held (pos 0 -ℤ held c.args.s)
 
-  forward_asks : Summable (held c.args.c) dx' (held c.args.s) dy'
-  forward_asks =
-      record {
-        first = abs_machine Γ (held c.args.c) (search machine depth 20) tt;
-        along = abs_machine Γ dx' (search machine depth 20) tt;
-        second = abs_machine Γ (held c.args.s) (search machine depth 20) tt;
-        aside = abs_machine Γ dy' (search machine depth 20) tt;
-      }
-
-  left_asks : Summable s' dx' (held c.args.c) dy'
-  left_asks =
-      record { first = abs_machine Γ s' (search machine depth 20) tt; along = forward_asks.along; second = forward_asks.first; aside = forward_asks.aside }
-
   forward : held c.args.c *ℤ dx' +ℤ held c.args.s *ℤ dy' ≡ c.args.c *ℤ dx +ℤ c.args.s *ℤ dy
   forward = by_machine Γ (search machine depth 20) (search machine depth 20) tt
 
   left : s' *ℤ dx' +ℤ held c.args.c *ℤ dy' ≡ neg_ℤ c.args.s *ℤ dx +ℤ c.args.c *ℤ dy
   left = by_machine Γ (search machine depth 20) (search machine depth 20) tt
-
-pub near_sum-requires : goal.near_sum-requires
-near_sum-requires c = forward_asks (goal.at.near_sum-requires c).Start
-
-pub near_sum-requires-2 : goal.near_sum-requires-2
-near_sum-requires-2 c = left_asks (goal.at.near_sum-requires-2 c).Start
 
 pub returns : goal.returns
 unfolding forward_of left_of minus

@@ -1,4 +1,4 @@
-/* Crest alignments of embankment dams: the calls of libcrest.a, the static library of crate `crest`. For C99 and C++.
+/* Crest alignments of embankment dams: the calls of libcrest.a, the static library of crate `crest_c`. For C99 and C++.
  *
  * Lengths and stations are whole millimetres. Plane coordinates and offsets are whole grains, 100 grains to 1 mm.
  * Turning from x towards y is left; left offsets and left radii are positive. A direction is a pair (c, s) with
@@ -61,7 +61,8 @@
  *     crest_acknowledge                   64  some 20 instructions
  *
  * The stack is counted from the caller's frame, return addresses included; no call recurses, and the frames of the compiled
- * functions come to no more for any arguments (bench/stack, tests/install). Instructions are as bench/run counts them.
+ * functions come to no more for any arguments (bench/stack, tests/install). Instructions are as bench/run counts them; these and
+ * the times below were measured with the toolchain before the present one.
  *
  * Only crest_plane_reading and crest_sighting_reading search, and in the same way. The walk visits stations, twice over the
  * crest: on one of T mm at most T + T / 1000 + 3 of them, and never more than 30,030,002, since T is 30,000,000 at the most.

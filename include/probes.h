@@ -1,4 +1,4 @@
-/* Calls for tests, tools and measurement: the static library of the crate `probes`. They are no entries of the product. What is
+/* Calls for tests, tools and measurement: the static library of the crate `probes_c`. They are no entries of the product. What is
  * lent, and what a call returns, are as in crest.h; 18 is for room of another size than named here. */
 #ifndef PROBES_H
 #define PROBES_H

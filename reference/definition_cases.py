@@ -164,15 +164,14 @@ class Chapter(NamedTuple):
         return sum(len(table.cases) for table in self.tables) + len(self.after)
 
 
-SPECS = "Rattle·model·specs.specs"
+SPECS = "Rattle.model.specs"
 FORMS = "CasesForms"
 
 # What every module of cases uses.
 FORMS_TEXT = f"""-- How the tables of cases write bytes, elements, points and answers.
-use Prim.Native.Nat.{{ℕ, zero, suc, _/_, _%_}}
-use mathlib.Core.List.{{List, [], _∷_, map}}
-use lib.IntN.{{ℤ}}
-use lib.Ieee.{{Float, binary64, ofBits}}
+use Rattle.std.specs.Prelude.{{ℕ, zero, suc, ◌/◌, ◌%◌, List, [], ◌∷◌, map, ℤ, Float}}
+use Rattle.std.specs.Float.{{binary64}}
+use Rattle.std.specs.Float.Ieee.{{of_bits}}
 use {SPECS}.declared.Kind.{{Kind}}
 use {SPECS}.declared.Element.{{Element}}
 use {SPECS}.declared.Point.{{Point}}
@@ -181,10 +180,10 @@ use {SPECS}.declared.Run.{{Run}}
 
 -- the left and the right column of a table
 abbrev pub asked : {{A : Type 0}} → List (A × A) → List A
-asked {{A}} table = map (λ (row : A × A). row .0) table
+asked {{A}} table = map (λ (row : A × A). row.0) table
 
 abbrev pub due : {{A : Type 0}} → List (A × A) → List A
-due {{A}} table = map (λ (row : A × A). row .1) table
+due {{A}} table = map (λ (row : A × A). row.1) table
 
 -- the first k digits of n in base 256, the lowest first
 abbrev pub bytes : ℕ → ℕ → List ℕ
@@ -206,29 +205,26 @@ run a r l f n i j k =
     record {{ answered = a; refused = r; latest = l; first = f; reading = n; one = i; two = j; three = k }}
 
 abbrev pub float : ℕ → Float
-float bits = ofBits binary64 bits
+float bits = of_bits binary64 bits
 """
 
 COMMON_USES = (
-    "Prim.Native.Nat.{ℕ, _*_}",
-    "mathlib.Core.Path.{_≡_, refl}",
-    "mathlib.Core.Bool.{Bool, true, false}",
-    "mathlib.Core.List.{List, [], _∷_, _++_}",
-    "lib.IntN.{ℤ, pos, negsuc}",
-    "Rattle·model·proofs.proofs.CasesForms.{asked, due, bytes, point, element, refused, run, float}",
+    "Rattle.std.specs.Prelude.{ℕ, ◌*◌, ◌≡◌, Bool, true, false, List, [], ◌∷◌, ◌++◌, ℤ, pos, negsuc}",
+    "Rattle.std.proofs.Common.{refl}",
+    "Rattle.model.proofs.CasesForms.{asked, due, bytes, point, element, refused, run, float}",
 )
 KIND_USES = (
     "declared.Kind.{Kind}",
-    "declared.Kind.the-variants.{Line, Arc, EntrySpiral, ExitSpiral}",
+    "declared.Kind.TheVariants.{Line, Arc, EntrySpiral, ExitSpiral}",
 )
-SHAPE_USES = ("declared.Shape.{Shape}", "declared.Shape.the-variants.{Straight, Circular, Clothoid}")
+SHAPE_USES = ("declared.Shape.{Shape}", "declared.Shape.TheVariants.{Straight, Circular, Clothoid}")
 ELEMENT_USES = (*KIND_USES, "declared.Element.{Element}", "declared.Point.{Point}")
-OUTCOME_USES = ("declared.Outcome.{Outcome}", "declared.Outcome.the-variants.{Done, Refused}")
+OUTCOME_USES = ("declared.Outcome.{Outcome}", "declared.Outcome.TheVariants.{Done, Refused}")
 FILE_CREST_USES = ("Acceptance.{crest_rules, crest_elements}", "Crest.{file_crest}")
 FILE_CREST = "crest_rules crest_elements"  # what a file's crest is computed by
 
 PAPER_FORM = """-- the paper's number, place and values
-abbrev paper : ℕ → ℕ → List ℤ → PaperAnswer
+abbrev paper : ℕ → ℕ → List ℤ → Paper_answer
 paper n p v = record { number = n; place = p; values = v }
 """
 
@@ -252,7 +248,7 @@ def declaration_text(table, name, cases):
 
 def module_text(chapter, tables, after=()):
     """A module of some tables of a chapter."""
-    own = (use if use.startswith(("lib.", "Prim.", "Rattle")) else f"{SPECS}.{use}" for use in chapter.uses)
+    own = (use if use.startswith(("Prim.", "Rattle")) else f"{SPECS}.{use}" for use in chapter.uses)
     lines = [f"-- Cases of {chapter.name}, computed.", *(f"use {use}" for use in (*COMMON_USES, *own)), ""]
     lines += chapter.before
     lines += [
@@ -344,7 +340,7 @@ NAMED_NUMBERS = {
 
 def number_named(name):
     """The reference's number of the definitions' name: WIDEST_GAP of widest_gap."""
-    return getattr(crest, re.sub("([A-Z])", r"_\1", name).upper())
+    return getattr(crest, name.upper())
 
 
 def records(rng):
@@ -685,7 +681,7 @@ def acceptance(rng):
         *ELEMENT_USES,
         *OUTCOME_USES,
         "declared.KindByte.{KindByte}",
-        "declared.KindByte.the-variants.{Damaged, Known, Later}",
+        "declared.KindByte.TheVariants.{Damaged, Known, Later}",
         "Kinds.{decide}",
         "Acceptance.{element_bytes}",
         *FILE_CREST_USES,
@@ -845,8 +841,8 @@ def exact(element, l):
 def same_fraction(text, value):
     """A fraction of the definitions is the reduced one given."""
     return Case(
-        f"{text} .numerator *ℤ pos {value.denominator}",
-        f"{whole(value.numerator)} *ℤ pos ({text} .denominator)",
+        f"{text}.numerator *ℤ pos {value.denominator}",
+        f"{whole(value.numerator)} *ℤ pos {text}.denominator",
     )
 
 
@@ -872,12 +868,12 @@ def bound(rng):
             for name, value, found in zip(("exact_along", "exact_aside"), exact(element, l), (u, v)):
                 text = f"({name} {shape} {l} {turn})"
                 sums.append(same_fraction(text, value))
-                positive.append(Case(f"ltb 0 ({text} .denominator)", "true"))
+                positive.append(Case(f"ltb 0 {text}.denominator", "true"))
                 low, high = math.ceil(value - 2), math.floor(value + 2)
                 assert low <= found <= high
                 for grains in {found, rng.choice((low, high)), rng.choice((low - 1, high + 1))}:
-                    apart = f"natAbs (pos ({text} .denominator) *ℤ {whole(grains)} -ℤ {text} .numerator)"
-                    tests.append(Case(f"leb ({apart}) (2 * {text} .denominator)", truth(low <= grains <= high)))
+                    apart = f"nat_abs (pos {text}.denominator *ℤ {whole(grains)} -ℤ {text}.numerator)"
+                    tests.append(Case(f"leb ({apart}) (2 * {text}.denominator)", truth(low <= grains <= high)))
                 if s == element.length // 2 and number < 24:
                     beyond.append(f"Within2 {whole(rng.choice((low - 1, high + 1)))} {text} → ⊥")
             bounded.append(f"Bounded {element_text(element)} {s}")
@@ -894,8 +890,9 @@ def bound(rng):
     ]
     uses = (
         *ELEMENT_USES,
-        "lib.IntN.{natAbs, one, _*ℤ_, _-ℤ_}",
-        "lib.Dec.{leb, ltb, leb→le, le→leb}",
+        "Rattle.std.specs.Prelude.{nat_abs, ◌*ℤ◌, ◌-ℤ◌, leb, ltb}",
+        "Rattle.std.proofs.Common.{leb→le, le→leb}",
+        "Rattle.std.proofs.Math.IntN.{one}",
         *SHAPE_USES,
         "Series.{turn_of, unsigned_at}",
         "Bound.{Within2, Bounded, exact_along, exact_aside, exact_along_at, exact_aside_at}",
@@ -960,7 +957,7 @@ def stations(rng):
         tested = stations_of(rng, alignment)
         for s in tested:
             number, _ = crest.element_at(alignment, s)
-            numbers.append(Case(f"at_station {one.name} {s} .number", str(number)))
+            numbers.append(Case(f"(at_station {one.name} {s}).number", str(number)))
         for s in rng.sample(tested, min(30, len(tested))):
             number, along = crest.element_at(alignment, s)
             due = f"record {{ number = {number}; element = {one.element(number)}; s = {along} }}"
@@ -973,13 +970,13 @@ def stations(rng):
     tables = [
         Table("totals", "ℕ", "total", totals),
         Table("allowed", "Bool", "is_station", allowed),
-        Table("elements", "AtElement", "at_station", elements),
+        Table("elements", "At_element", "at_station", elements),
         Table("element-numbers", "ℕ", "at_station", numbers),
         Table("positions", "Point", "position_at", positions),
         Table("tangents", "Point", "tangent_at", tangents),
         Table("distances", "ℕ", "D", distances),
     ]
-    uses = (*ELEMENT_USES, "Stations.{AtElement, total, is_station, at_station, position_at, tangent_at, D}")
+    uses = (*ELEMENT_USES, "Stations.{At_element, total, is_station, at_station, position_at, tangent_at, D}")
     return Chapter(7, "Stations", uses, tables, shown(named))
 
 
@@ -991,7 +988,7 @@ def located_text(answer):
 
 LOCATED_USES = (
     "declared.Located.{Located}",
-    "declared.Located.the-variants.{At as LocatedAt, Refused as LocatedRefused}",
+    "declared.Located.TheVariants.{At as LocatedAt, Refused as LocatedRefused}",
 )
 
 
@@ -1113,7 +1110,7 @@ def walk(rng):
     ]
     uses = (
         *ELEMENT_USES,
-        "Rattle·integers.specs.Root.{root}",
+        "Rattle.integers.specs.Root.{root}",
         "Walk.{first_visits, skipped, second_visits, visits, visit_count}",
     )
     return Chapter(9, "Walk", uses, tables, shown(named))
@@ -1124,11 +1121,11 @@ def walk(rng):
 
 INVERSE_USES = (
     "declared.Inverse.{Inverse}",
-    "declared.Inverse.the-variants.{At as InverseAt, Refused as InverseRefused}",
+    "declared.Inverse.TheVariants.{At as InverseAt, Refused as InverseRefused}",
 )
 PLACED_USES = (
     "declared.Placed.{Placed}",
-    "declared.Placed.the-variants.{At as PlacedAt, Refused as PlacedRefused}",
+    "declared.Placed.TheVariants.{At as PlacedAt, Refused as PlacedRefused}",
 )
 
 
@@ -1246,11 +1243,11 @@ def answers(rng):
         Table("placed", "Placed", f"answer_after station_question {FILE_CREST}", placed, 8),
         Table("moves", "Move", "answer_after move_question", moves),
         Table("move-calls", "ℕ × List ℕ", "stake_out_call", calls),
-        Table("papers", "PaperAnswer", "paper_of_placed paper_of_located paper_of_inverse paper_of_move", papers),
-        Table("placed-papers", "PaperAnswer", f"paper_after station_question {FILE_CREST}", placed_papers, 8),
-        Table("located-papers", "PaperAnswer", f"paper_after point_question {FILE_CREST}", located_papers, 5),
-        Table("inverse-papers", "PaperAnswer", f"paper_after place_question {FILE_CREST}", inverse_papers, 8),
-        Table("move-papers", "PaperAnswer", "paper_after move_question", move_papers),
+        Table("papers", "Paper_answer", "paper_of_placed paper_of_located paper_of_inverse paper_of_move", papers),
+        Table("placed-papers", "Paper_answer", f"paper_after station_question {FILE_CREST}", placed_papers, 8),
+        Table("located-papers", "Paper_answer", f"paper_after point_question {FILE_CREST}", located_papers, 5),
+        Table("inverse-papers", "Paper_answer", f"paper_after place_question {FILE_CREST}", inverse_papers, 8),
+        Table("move-papers", "Paper_answer", "paper_after move_question", move_papers),
     ]
     uses = (
         *ELEMENT_USES,
@@ -1259,9 +1256,9 @@ def answers(rng):
         *INVERSE_USES,
         *FILE_CREST_USES,
         "declared.Move.{Move}",
-        "declared.Move.the-variants.{By, Refused as MoveRefused}",
+        "declared.Move.TheVariants.{By, Refused as MoveRefused}",
         "Answers.{inverse_on, inverse, placed_on, placed, stake_out}",
-        "Answers.{PaperAnswer, paper_of_placed, paper_of_located, paper_of_inverse, paper_of_move}",
+        "Answers.{Paper_answer, paper_of_placed, paper_of_located, paper_of_inverse, paper_of_move}",
         "Answers.{answer_after, paper_after, asked_paper}",
         "Answers.{station_question, point_question, place_question, move_question}",
         "Calls.{stake_out_call}",
@@ -1284,12 +1281,12 @@ ODD_FLOATS = (
 ANSWER_NAMES = "PlanePoint as AnswerPoint, LinePlace as AnswerPlace, Refused as AnswerRefused"
 ANSWER_USES = (
     "declared.ReadingAnswer.{ReadingAnswer}",
-    f"declared.ReadingAnswer.the-variants.{{{ANSWER_NAMES}}}",
+    f"declared.ReadingAnswer.TheVariants.{{{ANSWER_NAMES}}}",
 )
-READING_USES = ("declared.Reading.{Reading}", "declared.Reading.the-variants.{PlanePoint, LinePlace}")
+READING_USES = ("declared.Reading.{Reading}", "declared.Reading.TheVariants.{PlanePoint, LinePlace}")
 # What a reading on a crest file is computed by, and the paper's number, place and values of it.
-ASKED = f"answer_after reading_question ofBits {FILE_CREST}"
-PAPER_ASKED = f"paper_after reading_question ofBits {FILE_CREST}"
+ASKED = f"answer_after reading_question of_bits {FILE_CREST}"
+PAPER_ASKED = f"paper_after reading_question of_bits {FILE_CREST}"
 
 
 def answer_text(reading, answer):
@@ -1397,21 +1394,21 @@ def readings(rng):
         displays.append(Case(f"display_of {place}", nothing))
         displays.append(Case(f"display_of (AnswerRefused {refusal_text(number, spread(rng, 60))})", nothing))
     tables = [
-        Table("wholes", "Whole", "whole_of ofBits", wholes),
+        Table("wholes", "Whole", "whole_of of_bits", wholes),
         Table("answers", "ReadingAnswer", ASKED, answered, 5),
-        Table("papers", "PaperAnswer", PAPER_ASKED, papers[::2], 5),
-        Table("papers-of", "PaperAnswer", f"paper_of_reading value_count {ASKED}", of_answers[1::2], 5),
-        Table("papers-of-any", "PaperAnswer", "paper_of_reading value_count ofBits", of_any),
-        Table("value-counts", "ℕ", "value_count ofBits", counts),
-        Table("displays", "Display", "display_of ofInt div ofBits", displays, 25),
+        Table("papers", "Paper_answer", PAPER_ASKED, papers[::2], 5),
+        Table("papers-of", "Paper_answer", f"paper_of_reading value_count {ASKED}", of_answers[1::2], 5),
+        Table("papers-of-any", "Paper_answer", "paper_of_reading value_count of_bits", of_any),
+        Table("value-counts", "ℕ", "value_count of_bits", counts),
+        Table("displays", "Display", "display_of of_int div of_bits", displays, 25),
     ]
     uses = (
         *READING_USES,
         *ANSWER_USES,
         *FILE_CREST_USES,
         "declared.Display.{Display}",
-        "lib.Ieee.{ofBits, ofInt, div}",
-        "Answers.{PaperAnswer, answer_after, paper_after, asked_paper}",
+        "Rattle.std.specs.Float.Ieee.{of_bits, of_int, div}",
+        "Answers.{Paper_answer, answer_after, paper_after, asked_paper}",
         "Readings.{Whole, whole, none, whole_of, reading_question, answer_to, value_count, paper_of_reading, display_of}",
     )
     return Chapter(11, "Readings", uses, tables, (PAPER_FORM,))
@@ -1529,7 +1526,7 @@ def run_answers(rng):
     assert len(seen) == 8, seen  # answered and refused ones of both sorts, on full and other runs
     return [
         Table("noted-answers", "Noted", "noted", noted),
-        Table("noted-papers", "PaperAnswer", "noted_paper", papers),
+        Table("noted-papers", "Paper_answer", "noted_paper", papers),
         Table("answer-calls", "ℕ × List ℕ", "reading_call", calls),
     ]
 
@@ -1567,7 +1564,7 @@ def run_calls(rng):
         Table("reading-calls", "ℕ × List ℕ", f"reading_call {ASKED}", read_calls, 5),
         Table("shown-of-readings", "Shown", f"shown_of {ASKED}", shown_[1::3], 5),
         Table("noted", "Noted", f"noted {ASKED}", noted[::2], 5),
-        Table("papers", "PaperAnswer", f"noted_paper {PAPER_ASKED}", papers[::5], 5),
+        Table("papers", "Paper_answer", f"noted_paper {PAPER_ASKED}", papers[::5], 5),
         Table("check-calls", "ℕ", f"check_call {FILE_CREST}", checks[::3], 5),
     ]
 
@@ -1664,9 +1661,9 @@ def run(rng):
         *ANSWER_USES,
         *FILE_CREST_USES,
         "declared.Run.{Run}",
-        "lib.Ieee.{ofBits}",
+        "Rattle.std.specs.Float.Ieee.{of_bits}",
         "declared.Noted.{Noted}",
-        "Answers.{PaperAnswer, answer_after, paper_after, asked_paper}",
+        "Answers.{Paper_answer, answer_after, paper_after, asked_paper}",
         "Readings.{reading_question, answer_to}",
         "Run.{Shown, fresh, is_full, shown_of, counted, acknowledged, noted, noted_paper, run_at, run_bytes}",
         "Calls.{reading_call, acknowledge_call, check_call}",
@@ -1820,7 +1817,7 @@ def program(rng):
         *READING_USES,
         *FILE_CREST_USES,
         "declared.Run.{Run}",
-        "lib.Ieee.{ofBits}",
+        "Rattle.std.specs.Float.Ieee.{of_bits}",
         "Answers.{answer_after}",
         "Readings.{reading_question}",
         "Run.{Shown}",
@@ -1878,9 +1875,9 @@ def any_crest(rng):
         Table("placed", "Placed", "answer_after station_question", placed, 20),
         Table("located", "Located", "answer_after point_question", located, 10),
         Table("inverses", "Inverse", "answer_after place_question", inverses, 20),
-        Table("readings", "ReadingAnswer", "answer_after reading_question ofBits", readings_, 10),
-        Table("answers-on", "ReadingAnswer", "answer_after reading_question ofBits", on_elements, 10),
-        Table("papers", "PaperAnswer", f"paper_after {questions} ofBits", papers, 10),
+        Table("readings", "ReadingAnswer", "answer_after reading_question of_bits", readings_, 10),
+        Table("answers-on", "ReadingAnswer", "answer_after reading_question of_bits", on_elements, 10),
+        Table("papers", "Paper_answer", f"paper_after {questions} of_bits", papers, 10),
     ]
     uses = (
         *ELEMENT_USES,
@@ -1891,10 +1888,10 @@ def any_crest(rng):
         *READING_USES,
         *ANSWER_USES,
         *FILE_CREST_USES,
-        "lib.Ieee.{ofBits}",
+        "Rattle.std.specs.Float.Ieee.{of_bits}",
         f"Refusals.{{Rule, rule, verdict, {', '.join(REASONS[: len(OWN)])}}}",
         "Crest.{Crest, check_of}",
-        "Answers.{PaperAnswer, answer_after, paper_after, asked_paper, placed, located, inverse}",
+        "Answers.{Paper_answer, answer_after, paper_after, asked_paper, placed, located, inverse}",
         "Answers.{station_question, point_question, place_question}",
         "Readings.{reading_question, answer_on, answer_to}",
     )
@@ -1911,7 +1908,7 @@ OF_SIGHTED_MOVES = {7, 11, 15}
 SIGHTING_FIELDS = "x", "y", "«backsight_c»", "«backsight_s»", "«angle_c»", "«angle_s»", "distance"
 # What a sighting on a crest is computed by, and a reading or a sighting.
 SIGHTED = "answer_after sighting_question"
-OBSERVED = "answer_after observed_question ofBits"
+OBSERVED = "answer_after observed_question of_bits"
 BRIEF = Named("brief", crest.Alignment([Element(LINE, 3, 0, 0, ONE, 0, 0)]))
 
 
@@ -1967,7 +1964,7 @@ def sightings_alone(rng):
         points.append(Case(f"sighted_of {text}", point_text(point)))
         rules.append(Case(f"verdict (sight_rules {text})", outcome_text(Refusal(fault, 0) if fault else None)))
         answer = crest.StationAnswer(0, 0, *point, *direction)
-        found.append(Case(f"sight_question {text} .answer", placed_text(answer)))
+        found.append(Case(f"(sight_question {text}).answer", placed_text(answer)))
         if fault:
             answer = crest.StationAnswer(fault, 0)
         else:
@@ -1985,7 +1982,7 @@ def sightings_alone(rng):
         Table("own-refusals", "Outcome", "verdict sight_rules", rules),
         Table("questions", "Placed", "sight_question", found[1::2]),
         Table("question-answers", "Placed", "answer_after sight_question", answered),
-        Table("question-papers", "PaperAnswer", "paper_after sight_question", papers[::2]),
+        Table("question-papers", "Paper_answer", "paper_after sight_question", papers[::2]),
     ]
 
 
@@ -2012,7 +2009,7 @@ def sighted_moves(rng):
         assert sum(case.due.startswith(f"(paper {number} ") for case in papers) >= len(sizes), number
     return [
         Table("moves", "Move", "answer_after sighted_move_question", moves),
-        Table("move-papers", "PaperAnswer", "paper_after sighted_move_question", papers[1::3]),
+        Table("move-papers", "Paper_answer", "paper_after sighted_move_question", papers[1::3]),
         Table("move-calls", "ℕ × List ℕ", "sighting_stake_out_call", calls),
     ]
 
@@ -2086,8 +2083,8 @@ def sighted_answers(rng, named):
     assert returned == counted | {(number, refused) for number in (16, 18) for refused in (False, True)}, returned
     return [
         Table("answers", "ReadingAnswer", SIGHTED, answered, 20),
-        Table("papers", "PaperAnswer", "paper_after sighting_question", papers, 10),
-        Table("displays", "Display", f"display_of ofInt div ofBits {SIGHTED}", displays, 10),
+        Table("papers", "Paper_answer", "paper_after sighting_question", papers, 10),
+        Table("displays", "Display", f"display_of of_int div of_bits {SIGHTED}", displays, 10),
         Table("answer-calls", "ℕ × List ℕ", f"reading_call {SIGHTED}", calls, 20),
     ]
 
@@ -2113,8 +2110,8 @@ def observed_answers(rng, named):
     tables = [
         Table("observed", "ReadingAnswer", OBSERVED, observed, 10),
         Table("observed-on", "ReadingAnswer", OBSERVED, observed_on[::2], 10),
-        Table("observed-papers", "PaperAnswer", "paper_after observed_question ofBits", papers[1::2], 10),
-        Table("observed-counts", "ℕ", "observed_count ofBits", counts[::2]),
+        Table("observed-papers", "Paper_answer", "paper_after observed_question of_bits", papers[1::2], 10),
+        Table("observed-counts", "ℕ", "observed_count of_bits", counts[::2]),
     ]
     for table in tables:  # both sorts, also where every third is left
         sorts = Counter("Sighted" in case.asked for case in table.cases[::3])
@@ -2306,15 +2303,15 @@ def sightings(rng):
         *ANSWER_USES,
         *FILE_CREST_USES,
         "declared.Move.{Move}",
-        "declared.Move.the-variants.{By, Refused as MoveRefused}",
+        "declared.Move.TheVariants.{By, Refused as MoveRefused}",
         "declared.Display.{Display}",
         "declared.Run.{Run}",
         "declared.Sighting.{Sighting}",
-        "declared.Observation.the-variants.{Read, Sighted}",
-        "lib.Ieee.{ofBits, ofInt, div}",
+        "declared.Observation.TheVariants.{Read, Sighted}",
+        "Rattle.std.specs.Float.Ieee.{of_bits, of_int, div}",
         f"Refusals.{{Rule, rule, verdict, {', '.join(REASONS[: len(OWN)])}}}",
         "Crest.{Crest}",
-        "Answers.{PaperAnswer, answer_of, answer_after, paper_after, asked_paper}",
+        "Answers.{Paper_answer, answer_of, answer_after, paper_after, asked_paper}",
         "Readings.{display_of}",
         "Sightings.{turned_of, sighted_of, is_sight, sight_rules, sight_question, sighting_question, sighted_on, sighted_to}",
         "Sightings.{observed_question, observed_to, observed_count, sighted_move_question, sighted_move}",
@@ -2387,7 +2384,7 @@ def make_copy(folder):
     lines = (f"{name}: {' '.join(others)}\n" for name, others in crates.items())
     (folder / "crates.txt").write_text("".join(lines), encoding="utf-8")
     for name in crates:
-        shutil.copytree(ROOT / "crates" / name, folder / "crates" / name)
+        shutil.copytree(ROOT / "crates" / name, folder / "crates" / name, ignore=shutil.ignore_patterns("out"))
 
 
 def put_modules(folder, modules):
@@ -2411,9 +2408,9 @@ class Verdict(NamedTuple):
     text: str
 
 
-def ask_checker(folder, command):
-    words = ["rt", command, CRATE]
-    done = subprocess.run(words, cwd=folder, stdout=subprocess.PIPE, stderr=subprocess.STDOUT, encoding="utf-8")
+def ask_checker(folder):
+    place = folder / "crates" / CRATE
+    done = subprocess.run(["rt", "check"], cwd=place, stdout=subprocess.PIPE, stderr=subprocess.STDOUT, encoding="utf-8")
     found = re.findall(r"proofs/(\w+)\.antt:\d+:\d+: error: (?:`([^`]+)`)?", done.stdout)
     return Verdict(done.returncode == 0, found, done.stdout)
 
@@ -2461,7 +2458,7 @@ def show_refused(folder, made, verdict):
     if not modules:
         return
     put_modules(folder, modules)
-    for place in dict.fromkeys(ask_checker(folder, "dev").refused):
+    for place in dict.fromkeys(ask_checker(folder).refused):
         if place in cases:
             print(f"refused: {cases[place].asked}\n  reference: {cases[place].due}")
 
@@ -2485,7 +2482,7 @@ def check_all(folder, part):
     made = list(map(part_of, whole_ones)) if part else whole_ones
     put_modules(folder, {chapter.module: module_text(chapter, chapter.tables, chapter.after) for chapter in made})
     written = time.monotonic()
-    verdict = ask_checker(folder, "check")
+    verdict = ask_checker(folder)
     checked = time.monotonic()
     report(made, verdict)
     print(f"made in {written - start:.0f} s, checked in {checked - written:.0f} s")
@@ -2494,7 +2491,7 @@ def check_all(folder, part):
         return 1
     false = {chapter.module: false_tables(chapter) for chapter in whole_ones}
     put_modules(folder, {chapter.module: module_text(chapter, false[chapter.module]) for chapter in made})
-    verdict = ask_checker(folder, "dev")
+    verdict = ask_checker(folder)
     places = {(module, name) for module, some in false.items() for table in some for name, _ in declarations(table)}
     taken = sorted(places - set(verdict.refused))
     print(f"false tables: {len(places) - len(taken)} of {len(places)} refused, in {time.monotonic() - checked:.0f} s")

@@ -10,7 +10,7 @@ fn main() {
     println!("cargo:rustc-link-search=native={}", libraries.display());
     for name in ["crest", "probes"] {
         let file = libraries.join(format!("lib{name}.a"));
-        assert!(Path::new(&file).is_file(), "{} is missing: run rt staticlib {name}", file.display());
+        assert!(Path::new(&file).is_file(), "{} is missing: run tools/prove {name}", file.display());
         println!("cargo:rerun-if-changed={}", file.display());
         println!("cargo:rustc-link-lib=static={name}");
     }

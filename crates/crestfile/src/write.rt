@@ -7,6 +7,7 @@ use blocks::write_block;
 use model::layout::{BLOCK_SIZE, MOST_RECORDS, PER_BLOCK, RECORD_SIZE, RECORDS_END};
 
 // 17: whether so many bytes are 1 to 60 records.
+#[tactic(auto, unfolding(model::specs::Writer::count_fits))]
 pub fn count_fits(len: usize) -> bool
     ensures { result ≡ count_fits len }
 {

@@ -10,17 +10,17 @@ use Rattle.model.specs.Acceptance.{length_fits}
 use Rattle.model.proofs.InSteps.{one_done, one_refused}
 use Rattle.crestfile.proofs.check.check_length.Goals as goal
 
-abbrev One_of_four : ℕ → Type 0
-One_of_four n = (n ≡ 512) ⊎ (n ≡ 1024) ⊎ (n ≡ 1536) ⊎ (n ≡ 2048)
+abbrev OneOfFour : ℕ → Type 0
+OneOfFour n = (n ≡ 512) ⊎ (n ≡ 1024) ⊎ (n ≡ 1536) ⊎ (n ≡ 2048)
 
-fits : (n : ℕ) → One_of_four n → length_fits n ≡ true
+fits : (n : ℕ) → OneOfFour n → length_fits n ≡ true
 unfolding length_fits
 fits n (inl e) = ap length_fits e
 fits n (inr (inl e)) = ap length_fits e
 fits n (inr (inr (inl e))) = ap length_fits e
 fits n (inr (inr (inr e))) = ap length_fits e
 
-does_not_fit : (n : ℕ) → (One_of_four n → ⊥) → length_fits n ≡ false
+does_not_fit : (n : ℕ) → (OneOfFour n → ⊥) → length_fits n ≡ false
 unfolding length_fits
 does_not_fit n none = rw (ne_eqb n 512 (λ e. none (inl e)), ne_eqb n 1024 (λ e. none (inr (inl e))), ne_eqb n 1536 (λ e. none (inr (inr (inl e)))), ne_eqb n 2048 (λ e. none (inr (inr (inr e)))))
 

@@ -12,10 +12,10 @@ use Rattle.model.specs.Rounding.{ONE, near}
 use Rattle.model.specs.Acceptance.{frame}
 use Rattle.model.specs.Sightings.{longest_sight}
 use Rattle.rounding.proofs.Sizes.{near_within}
-use Rattle.sightings.proofs.gone.Statement.{statement}
-use Rattle.sightings.proofs.gone.Tie as tie
+use Rattle.sightings.proofs.gone.Goals.{After-near_one, Start}
+use Rattle.sightings.proofs.gone.Goals as goal
 
-module _ (c : tie.Start) where
+module _ (c : Start) where
   abbrev Γ : Env
   Γ = env (c.args.from ∷ c.args.distance ∷ c.args.along ∷ []) (frame ∷ longest_sight ∷ 2 * ONE ∷ []) (c.requires.start, (c.requires.length, (c.requires.component, tt)))
 
@@ -35,34 +35,29 @@ module _ (c : tie.Start) where
   gone_small : nat_abs (near computed ONE) ≤ 2 ^ 27
   gone_small = near_within {d = ONE} (omega arith) computed (omega (arith, product_small))
 
-cast_result : tie.Need-overflow-cast-result
-cast_result c = fits_machine (Γ c) (search machine depth 20) tt
+pub overflow_cast-result : goal.overflow_cast-result
+overflow_cast-result c = fits_machine (Γ c) (search machine depth 20) tt
 
-cast_near_one : tie.Need-overflow-cast-near-one
-cast_near_one c = fits_machine (Γ c) (search machine depth 20) tt
+pub overflow_cast-distance : goal.overflow_cast-distance
+overflow_cast-distance c = fits_machine (Γ c) (search machine depth 20) tt
 
-mul_near_one : tie.Need-overflow-mul-near-one
-mul_near_one c = fits_machine (Γ c) (search machine depth 20) tt
+pub overflow_mul-distance : goal.overflow_mul-distance
+overflow_mul-distance c = fits_machine (Γ c) (search machine depth 20) tt
 
-near_one_requires : tie.Need-near-one-requires
-near_one_requires c κs = omega (arith, product_small c)
+pub near_one-requires : goal.near_one-requires
+near_one-requires c = omega (arith, product_small c)
 
 -- what was gone, in 64 bits
-module _ (c : tie.After-near-one) where
+module _ (c : After-near_one) where
   abbrev with_gone : Env
   with_gone =
-      env (c.before.args.from ∷ c.near-one.result ∷ []) (frame ∷ 2 ^ 27 ∷ [])
-      (c.before.requires.start, (omega (arith, gone_small c.before, ap nat_abs c.near-one.ensures), tt))
+      env (c.args.from ∷ c.near_one.result ∷ []) (frame ∷ 2 ^ 27 ∷ [])
+      (c.requires.start, (omega (arith, gone_small c.before, ap nat_abs c.near_one.ensures), tt))
 
-add_result : tie.Need-overflow-add-result
-add_result c = fits_machine (with_gone c) (search machine depth 20) tt
+pub overflow_add-result : goal.overflow_add-result
+overflow_add-result c = fits_machine (with_gone c) (search machine depth 20) tt
 
-returns : tie.Need-returns
+pub returns : goal.returns
 returns c =
     by_machine (with_gone c) (search machine depth 20) (search machine depth 20) tt
-    ∙ ap (λ (z : ℤ). c.before.args.from +ℤ z) (c.near-one.ensures ∙ ap (λ (z : ℤ). near z ONE) (is_product c.before))
-
-pub gone_spec : {M : Type 1} → statement M
-gone_spec =
-    tie.close
-    (tie.spec cast_result cast_near_one mul_near_one near_one_requires add_result returns)
+    ∙ ap (λ (z : ℤ). c.args.from +ℤ z) (c.near_one.ensures ∙ ap (λ (z : ℤ). near z ONE) (is_product c.before))

@@ -24,11 +24,11 @@ use Rattle.codes.specs.Codes.{Codable}
 -- ---- orders of refusals
 
 -- what an order of refusals comes to has a code
-abbrev Codable_order : List Rule → Type 0
-Codable_order rs = Codable (paper_of_outcome (verdict rs))
+abbrev CodableOrder : List Rule → Type 0
+CodableOrder rs = Codable (paper_of_outcome (verdict rs))
 
 -- an order whose places are at most 60: its numbers are the table's
-order_codable : (rs : List Rule) → Placed_order rs → Codable_order rs
+order_codable : (rs : List Rule) → Placed_order rs → CodableOrder rs
 unfolding paper_of_outcome refusal
 order_codable rs placed = go (verdict rs) refl
   where
@@ -40,7 +40,7 @@ order_codable rs placed = go (verdict rs) refl
         record { number = omega (arith, reason_numbered c.rule.why); place = placed why e }
 
 -- one part of an order after another
-pub after_codable : (before rs : List Rule) → Placed_order before → Placed_order rs → Codable_order (before ++ rs)
+pub after_codable : (before rs : List Rule) → Placed_order before → Placed_order rs → CodableOrder (before ++ rs)
 after_codable before rs p q = order_codable (before ++ rs) (then_placed before rs p (λ d. q))
 
 -- a rule without a place, before others

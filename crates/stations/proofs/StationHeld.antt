@@ -16,4 +16,4 @@ pub record Computed (f : ℤ → ℤ → ℤ) (y n x m : ℤ) : Type 0 where
 pub computed : (f : ℤ → ℤ → ℤ) {x y m n : ℤ} → x ≡ y → m ≡ n → nat_abs y ≤ 2 ^ 32 → nat_abs n ≤ 2 ^ 32 → nat_abs (f y n) < 2 ^ 63 → Computed f y n x m
 computed f i j h k l =
     let e = ap₂ f (held_as i h) (held_as j k) in
-    record { fits = subst (SFits w64) (sym e) (fits_below l); is = ap held e ∙ to_z-of_z (fits_below l) }
+    record { fits = subst (SFits w64) (sym e) (fits_below l); is = ap held e ∙ to_z-of_z {w = w64} (fits_below l) }

@@ -1,0 +1,14 @@
+-- `stations::total` meets its contract: what is summed is T of the elements before.
+use Prim.Native.Nat.{◌-◌, ◌≤◌}
+use mathlib.Core.Path.{◌≡◌}
+use lib.ListN.{take}
+use Rattle.model.specs.Stations.{total}
+use Rattle.sources.specs.Sources.{elements_in}
+use Rattle.sources.proofs.RecordsRead.{RecordsRead}
+use Rattle.stations.proofs.total.Given as goal
+
+abbrev pub invariant-loop-i : goal.invariant-loop-i
+invariant-loop-i l = RecordsRead l.form l.crest l.amendment l.count × (l.i ≤ l.count) × (l.t ≡ total (take l.i (elements_in l.form l.crest l.amendment)))
+
+abbrev pub decreases-loop-i : goal.decreases-loop-i
+decreases-loop-i l = l.count - l.i

@@ -4,7 +4,7 @@
 usage: python3 tools/respell.py [--check]        at the top of the repository, after the toolchain's own port.py, once
 
 A name that a file of specs/ or proofs/ declares, and that has a capital after a small letter or a dash between two words, gets underscores:
-floorDiv is floor_div, near-even-fits is near_even_fits. Types, modules, constants, functions of src/, exported names and strings stay.
+floorDiv is floor_div, near-even-fits is near_even_fits. Types, facts, modules, constants, functions of src/, exported names and strings stay.
 Where a lemma would then have the name of a definition, it gets _lem. It turns .antt and .rt files and must-fail edits below crates/, and, of the
 documents, scripts and tests outside, those words that are names of definitions with a capital inside. --check writes nothing, and says what would meet.
 """
@@ -44,7 +44,9 @@ OF_PYTHON = re.compile(r"assert[A-Z]\w*|setUp|subTest|libFuzzer|viewBox")
 
 
 def plain(name):
-    return DASH.sub("_", CAPITAL.sub(lambda m: "_" + m[0].lower(), name))
+    # the name of a type or of a fact keeps its capitals, alone and as a part of another name
+    parts = DASH.split(name)
+    return "_".join(it if it[:1].isupper() else CAPITAL.sub(lambda m: "_" + m[0].lower(), it) for it in parts)
 
 
 def is_camel(name):
@@ -86,6 +88,7 @@ def main():
         new = plain(it)
         if new != it:
             turned[it] = new
+    functions = {it for p, t in sources.items() if p.endswith(".rt") for it in re.findall(r"\bfn (\w+)", t)}
     # where a definition and a lemma would meet, the definition, which has the capital, gets the name
     by_new = {}
     for old in declared | camel:
@@ -108,6 +111,8 @@ def main():
             if new is None and w[:1] in "(" :
                 continue
             if new is None:
+                continue
+            if new.endswith("_lem") and w in functions and not path.endswith(".antt"):
                 continue
             if clean[m.start()] == " ":
                 # in a comment: a word with a capital inside is a name, one with a dash only where it is quoted

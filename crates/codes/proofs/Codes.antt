@@ -13,12 +13,12 @@ use Rattle.model.specs.Refusals.{Reason, record_count, wrong_room, number, refus
 use Rattle.model.specs.Records.{block_size}
 use Rattle.model.specs.Acceptance.{records_rules}
 use Rattle.model.specs.Crest.{Crest, SoundCrest, check_of}
-use Rattle.model.specs.Answers.{Paper_answer, paper_of_outcome, code}
+use Rattle.model.specs.Answers.{PaperAnswer, paper_of_outcome, code}
 use Rattle.model.specs.Writer.{count_fits, blocks_needed, writer_rules, writer_outcome}
 use Rattle.model.proofs.Verdict.{reason_numbered, done→all, refused→first}
 use Rattle.model.proofs.ForEach.{holds_one}
 use Rattle.crestfile.proofs.SoundFile.{count_fits_lem}
-use Rattle.crestfile.proofs.Placed.{Placed_order, none_placed, rule_placed, then_placed, records_placed}
+use Rattle.crestfile.proofs.Placed.{PlacedOrder, none_placed, rule_placed, then_placed, records_placed}
 use Rattle.codes.specs.Codes.{Codable}
 
 -- ---- orders of refusals
@@ -28,7 +28,7 @@ abbrev CodableOrder : List Rule → Type 0
 CodableOrder rs = Codable (paper_of_outcome (verdict rs))
 
 -- an order whose places are at most 60: its numbers are the table's
-order_codable : (rs : List Rule) → Placed_order rs → CodableOrder rs
+order_codable : (rs : List Rule) → PlacedOrder rs → CodableOrder rs
 unfolding paper_of_outcome refusal
 order_codable rs placed = go (verdict rs) refl
   where
@@ -40,11 +40,11 @@ order_codable rs placed = go (verdict rs) refl
         record { number = omega (arith, reason_numbered c.rule.why); place = placed why e }
 
 -- one part of an order after another
-pub after_codable : (before rs : List Rule) → Placed_order before → Placed_order rs → CodableOrder (before ++ rs)
+pub after_codable : (before rs : List Rule) → PlacedOrder before → PlacedOrder rs → CodableOrder (before ++ rs)
 after_codable before rs p q = order_codable (before ++ rs) (then_placed before rs p (λ d. q))
 
 -- a rule without a place, before others
-pub unplaced : (why : Reason) (b : Bool) (rs : List Rule) → Placed_order rs → Placed_order (rule₀ why b ∷ rs)
+pub unplaced : (why : Reason) (b : Bool) (rs : List Rule) → PlacedOrder rs → PlacedOrder (rule₀ why b ∷ rs)
 unplaced why b rs k = rule_placed (rule₀ why b) rs (omega arith) (λ d. k)
 
 -- ---- the check and the writer
@@ -66,6 +66,6 @@ writer_codable records room =
 -- ---- what is returned
 
 -- the number and the place can be read back
-pub code_read : (p : Paper_answer) → Codable p → (code p % 256 ≡ p.number) × (code p / 256 ≡ p.place)
+pub code_read : (p : PaperAnswer) → Codable p → (code p % 256 ≡ p.number) × (code p / 256 ≡ p.place)
 unfolding code
 code_read p k = let n = k.number in (omega arith, omega arith)

@@ -12,17 +12,17 @@ use Rattle.model.specs.declared.ReadingAnswer.{ReadingAnswer}
 use Rattle.model.specs.declared.ReadingAnswer.TheVariants.{PlanePoint as AnswerPoint, LinePlace as AnswerPlace, Refused as AnswerRefused}
 use Rattle.model.specs.Refusals.{Rule}
 use Rattle.model.specs.Crest.{Crest, SoundCrest}
-use Rattle.model.specs.Answers.{Paper_answer, paper_if, paper_of_outcome, Question, answer_after, paper_after}
+use Rattle.model.specs.Answers.{PaperAnswer, paper_if, paper_of_outcome, Question, answer_after, paper_after}
 use Rattle.model.specs.Readings.{paper_of_reading}
 use Rattle.model.specs.Sightings.{observed_to, observed_count}
 use Rattle.model.proofs.Answers.{Bare, none, next, Tells, told_paper, observed_tells}
-use Rattle.crestfile.proofs.Placed.{Placed_order, none_placed, rule_placed}
+use Rattle.crestfile.proofs.Placed.{PlacedOrder, none_placed, rule_placed}
 use Rattle.codes.specs.Codes.{Codable}
 use Rattle.codes.proofs.Codes.{after_codable}
 
 -- ---- a question, after the rules that come before its own
 
-bare_placed : {rs : List Rule} → Bare rs → Placed_order rs
+bare_placed : {rs : List Rule} → Bare rs → PlacedOrder rs
 bare_placed none = none_placed
 bare_placed (next {r} {rs} e k) = rule_placed r rs (omega (arith, e)) (λ d. bare_placed k)
 
@@ -31,7 +31,7 @@ unfolding paper_of_outcome paper_if
 paper_codable Done values k = record { number = k.number; place = k.place }
 paper_codable (Refused why) values k = record { number = k.number; place = k.place }
 
-module _ {A : Type 0} {refused : Refusal → A} {paper_of : A → Paper_answer} {q : Question A} (tells : Tells refused paper_of q) (before : List Rule) (placed : Placed_order before) where
+module _ {A : Type 0} {refused : Refusal → A} {paper_of : A → PaperAnswer} {q : Question A} (tells : Tells refused paper_of q) (before : List Rule) (placed : PlacedOrder before) where
   pub question_codable : Codable (paper_of (answer_after before q))
   unfolding paper_after
   question_codable = subst Codable (sym (told_paper tells before)) (paper_codable _ q.values (after_codable before q.order placed (bare_placed tells.bare)))

@@ -6,10 +6,10 @@ use Rattle.model.specs.declared.Move.{Move}
 use Rattle.model.specs.declared.Move.TheVariants.{By}
 use Rattle.model.specs.Records.{most_records, put, i32_bytes}
 use Rattle.model.specs.Refusals.{last_number}
-use Rattle.model.specs.Answers.{Paper_answer, paper_of_move}
+use Rattle.model.specs.Answers.{PaperAnswer, paper_of_move}
 
 -- an answer or a refusal whose number is one of the table's, and whose place is a block or a record of a crest
-pub record Codable (p : Paper_answer) : Type 0 where
+pub record Codable (p : PaperAnswer) : Type 0 where
   pub number : p.number ≤ last_number
   pub place : p.place ≤ most_records
 

@@ -20,14 +20,14 @@ use Rattle.crestfile.proofs.SoundFile.{fits→blocks}
 -- ---- orders of refusals
 
 -- what an order refuses has a place up to 60
-abbrev pub Placed_order : List Rule → Type 0
-Placed_order rs = (why : Refusal) → verdict rs ≡ Refused why → why.place ≤ most_records
+abbrev pub PlacedOrder : List Rule → Type 0
+PlacedOrder rs = (why : Refusal) → verdict rs ≡ Refused why → why.place ≤ most_records
 
-pub none_placed : Placed_order []
+pub none_placed : PlacedOrder []
 unfolding verdict
 none_placed why e = clash cc
 
-one_placed : (r : Rule) → r.place ≤ most_records → Placed_order (r ∷ [])
+one_placed : (r : Rule) → r.place ≤ most_records → PlacedOrder (r ∷ [])
 unfolding verdict or_refused refusal
 one_placed r h why e = go r.holds e
   where
@@ -36,18 +36,18 @@ one_placed r h why e = go r.holds e
     go false e = let p : r.place ≡ why.place = cc in omega arith
 
 -- one part of an order after another
-pub then_placed : (rs ss : List Rule) → Placed_order rs → (verdict rs ≡ Done → Placed_order ss) → Placed_order (rs ++ ss)
+pub then_placed : (rs ss : List Rule) → PlacedOrder rs → (verdict rs ≡ Done → PlacedOrder ss) → PlacedOrder (rs ++ ss)
 then_placed rs ss p q = go (verdict rs) refl
   where
-    go : (o : Outcome) → verdict rs ≡ o → Placed_order (rs ++ ss)
+    go : (o : Outcome) → verdict rs ≡ o → PlacedOrder (rs ++ ss)
     go Done e = λ why h. q e why (sym (verdict_after rs ss e) ∙ h)
     go (Refused x) e = λ why h. p why (e ∙ (sym (refused_before rs ss e) ∙ h))
 
 -- a rule before others
-pub rule_placed : (r : Rule) (rs : List Rule) → r.place ≤ most_records → (verdict (r ∷ []) ≡ Done → Placed_order rs) → Placed_order (r ∷ rs)
+pub rule_placed : (r : Rule) (rs : List Rule) → r.place ≤ most_records → (verdict (r ∷ []) ≡ Done → PlacedOrder rs) → PlacedOrder (r ∷ rs)
 rule_placed r rs h q = then_placed (r ∷ []) rs (one_placed r h) q
 
-each_placed : (f : ℕ → List Rule) (n i : ℕ) → ((j : ℕ) → j < i + n → Placed_order (f j)) → Placed_order (for_each f n i)
+each_placed : (f : ℕ → List Rule) (n i : ℕ) → ((j : ℕ) → j < i + n → PlacedOrder (f j)) → PlacedOrder (for_each f n i)
 unfolding for_each
 each_placed f zero i p = none_placed
 each_placed f (suc n) i p = then_placed (f i) (for_each f n (i + 1)) (p i (omega arith)) (λ d. each_placed f n (i + 1) (λ j h. p j (omega arith)))
@@ -55,18 +55,18 @@ each_placed f (suc n) i p = then_placed (f i) (for_each f n (i + 1)) (p i (omega
 -- ---- a file
 
 module _ (file : List ℕ) where
-  sums_placed : (b : ℕ) → b ≤ most_records → Placed_order (sum_rules file b)
+  sums_placed : (b : ℕ) → b ≤ most_records → PlacedOrder (sum_rules file b)
   unfolding sum_rules
   sums_placed b h = rule_placed _ [] h (λ d. none_placed)
 
-  fields_placed : (b : ℕ) → b ≤ most_records → Placed_order (field_rules file b)
+  fields_placed : (b : ℕ) → b ≤ most_records → PlacedOrder (field_rules file b)
   unfolding field_rules
   fields_placed b h = rule_placed _ [] h (λ d. none_placed)
 
   few_blocks : verdict (rule₀ byte_count (length_fits (length file)) ∷ []) ≡ Done → block_count file ≤ 4
   few_blocks d = (fits→blocks (length file) (holds_one (done→all _ d))).at_most
 
-  pub blocks_placed : Placed_order (blocks_rules file)
+  pub blocks_placed : PlacedOrder (blocks_rules file)
   unfolding blocks_rules
   blocks_placed =
       let n = block_count file in
@@ -76,16 +76,16 @@ module _ (file : List ℕ) where
       then_placed (for_each (sum_rules file) n 0) (for_each (field_rules file) n 0) (each_placed (sum_rules file) n 0 (λ b h. sums_placed b (omega arith)))
       (λ e. each_placed (field_rules file) n 0 (λ b h. fields_placed b (omega arith))))
 
-record_placed : (this : List ℕ) (r : ℕ) → r ≤ most_records → Placed_order (record_rules this r)
+record_placed : (this : List ℕ) (r : ℕ) → r ≤ most_records → PlacedOrder (record_rules this r)
 unfolding record_rules
 record_placed this r h =
     rule_placed _ _ h (λ a. rule_placed _ _ h (λ b. rule_placed _ _ h (λ c. rule_placed _ _ h (λ d. rule_placed _ [] h (λ e. none_placed)))))
 
-join_placed : (e f : Element) (r : ℕ) → r ≤ most_records → Placed_order (join_rules e f r)
+join_placed : (e f : Element) (r : ℕ) → r ≤ most_records → PlacedOrder (join_rules e f r)
 unfolding join_rules
 join_placed e f r h = rule_placed _ _ h (λ a. rule_placed _ [] h (λ b. none_placed))
 
-pub records_placed : (bytes : List ℕ) → count_of bytes ≤ most_records → Placed_order (records_rules bytes)
+pub records_placed : (bytes : List ℕ) → count_of bytes ≤ most_records → PlacedOrder (records_rules bytes)
 unfolding records_rules each_record each_join
 records_placed bytes few =
     let records : ℕ → List Rule = λ r. record_rules (record_of bytes r) r in

@@ -14,7 +14,7 @@ use Rattle.model.specs.Crest.{check_of, file_crest}
 use Rattle.model.specs.Refusals.{for_each, verdict}
 use Rattle.model.specs.Acceptance.{length_fits, sums_agree, fields_fit, sum_rules, field_rules, records_rules, blocks_rules, crest_rules}
 use Rattle.model.specs.Writer.{blocks_needed, count_fits}
-use Rattle.model.proofs.Verdict.{All_hold, more, done→all, all→done}
+use Rattle.model.proofs.Verdict.{AllHold, more, done→all, all→done}
 use Rattle.integers.proofs.Tests.{eq_test, le_test, both_tests, either_test}
 use Rattle.fields.proofs.PartsOf.{length_part}
 use Rattle.model.proofs.ForEach.{all_append, append_all, one_holds, holds_one, each→all, all→each}
@@ -65,7 +65,7 @@ record Passed (file : List ℕ) : Type 0 where
   pub sums : (b : ℕ) → b < block_count file → sums_agree (block_of file b) ≡ true
   pub fields : (b : ℕ) → b < block_count file → fields_fit (block_count file) b (block_of file b) ≡ true
 
-blocks→passed : (file : List ℕ) → All_hold (blocks_rules file) → Passed file
+blocks→passed : (file : List ℕ) → AllHold (blocks_rules file) → Passed file
 unfolding blocks_rules sum_rules field_rules
 blocks→passed file (more h a) =
     let s = append_all (for_each (sum_rules file) (block_count file) 0) a in
@@ -75,7 +75,7 @@ blocks→passed file (more h a) =
       fields = λ k l. rw zero-add at (holds_one (all→each (field_rules file) (block_count file) 0 s.1 k l));
     }
 
-passed→blocks : (file : List ℕ) → Passed file → All_hold (blocks_rules file)
+passed→blocks : (file : List ℕ) → Passed file → AllHold (blocks_rules file)
 unfolding blocks_rules sum_rules field_rules
 passed→blocks file p =
     more p.size
@@ -84,11 +84,11 @@ passed→blocks file p =
     (each→all (field_rules file) (block_count file) 0 (λ b l. rw zero-add (one_holds (p.fields b l)))))
 
 -- a file is accepted exactly when its blocks and its records are
-accepted→both : (file : List ℕ) → check_of (file_crest file) ≡ Done → All_hold (blocks_rules file) × All_hold (records_rules (record_bytes file))
+accepted→both : (file : List ℕ) → check_of (file_crest file) ≡ Done → AllHold (blocks_rules file) × AllHold (records_rules (record_bytes file))
 unfolding crest_rules
 accepted→both file e = append_all (blocks_rules file) (done→all (crest_rules file) e)
 
-both→accepted : (file : List ℕ) → All_hold (blocks_rules file) → All_hold (records_rules (record_bytes file)) → check_of (file_crest file) ≡ Done
+both→accepted : (file : List ℕ) → AllHold (blocks_rules file) → AllHold (records_rules (record_bytes file)) → check_of (file_crest file) ≡ Done
 unfolding crest_rules
 both→accepted file a b = all→done (all_append a b)
 
@@ -104,7 +104,7 @@ pub sound_file_records : {file records : List ℕ} → SoundFile file records �
 unfolding record_bytes
 sound_file_records {file} c = ap (λ n. used_bytes n file) (sound_file_blocks c) ∙ used_bytes_lem c.row
 
-pub sound_file→accepted : {file records : List ℕ} → SoundFile file records → All_hold (records_rules records) → check_of (file_crest file) ≡ Done
+pub sound_file→accepted : {file records : List ℕ} → SoundFile file records → AllHold (records_rules records) → check_of (file_crest file) ≡ Done
 sound_file→accepted {file} c a =
     both→accepted file
     (passed→blocks file (record {
@@ -141,7 +141,7 @@ blocks→sound_file file e =
         let c : SoundFile file records = record { blocks = block_count file; some = sized.some; at_most = sized.at_most; row = row } in
         rw (sound_file_records c) c
 
-pub accepted→sound_file : (file : List ℕ) → check_of (file_crest file) ≡ Done → SoundFile file (record_bytes file) × All_hold (records_rules (record_bytes file))
+pub accepted→sound_file : (file : List ℕ) → check_of (file_crest file) ≡ Done → SoundFile file (record_bytes file) × AllHold (records_rules (record_bytes file))
 accepted→sound_file file e = (blocks→sound_file file (accepted→blocks file e), (accepted→both file e).1)
 
 -- ---- the number of records

@@ -17,7 +17,7 @@ use Rattle.model.specs.declared.ReadingAnswer.{ReadingAnswer}
 use Rattle.model.specs.declared.ReadingAnswer.TheVariants.{PlanePoint as AnswerPoint, Refused as AnswerRefused}
 use Rattle.model.specs.Refusals.{Reason, Rule, number, refusal, Gives, verdict}
 use Rattle.model.specs.Crest.{Crest, check_of, is_own}
-use Rattle.model.specs.Answers.{Paper_answer, Question, answer_if, answer_after, point_question, located}
+use Rattle.model.specs.Answers.{PaperAnswer, Question, answer_if, answer_after, point_question, located}
 use Rattle.model.specs.Readings.{from_located, put_after}
 use Rattle.model.proofs.Verdict.{done→all, all→done}
 use Rattle.model.proofs.Answers.{rules_hold, Tells, told_exactly, told_answer, point_tells, put_after_lem}
@@ -47,7 +47,7 @@ module _ (c : Crest) (rules : List Rule) where
       put_after_lem rules from q refuses c.rules
       ∙ ap (λ o. from (answer_if o q)) (ap verdict (append_assoc c.rules rules q.order) ∙ held_between c.rules rules q.order hold)
 
-  module _ (own : Gives is_own c.rules) {A : Type 0} {refused : Refusal → A} {paper_of : A → Paper_answer} {paper : ReadingAnswer → Paper_answer} (from : A → ReadingAnswer) (q : Question A) (tells : Tells refused paper_of q)
+  module _ (own : Gives is_own c.rules) {A : Type 0} {refused : Refusal → A} {paper_of : A → PaperAnswer} {paper : ReadingAnswer → PaperAnswer} (from : A → ReadingAnswer) (q : Question A) (tells : Tells refused paper_of q)
       (asks : Tells AnswerRefused paper (put_after rules from q)) where
     abbrev came : ReadingAnswer
     came = answer_after c.rules (put_after rules from q)

@@ -35,32 +35,32 @@ use Rattle.model.specs.Acceptance.{crest_rules}
 use Rattle.model.specs.Crest.{Crest, check_of, file_crest, SoundCrest}
 use Rattle.model.specs.Records.{byte_at, record_bytes, count_of}
 use Rattle.model.specs.Writer.{writer_rules, writer_outcome, room_after, written}
-use Rattle.model.specs.Answers.{Paper_answer, paper_if, code, paper_of_outcome, Question, answer_after, paper_after, reader_outcome, span_if, reader_span, reader_part, placed, paper_of_placed, located, paper_of_located, inverse, paper_of_inverse, forward_of, left_of, move_rules, move_question, stake_out, paper_of_move}
+use Rattle.model.specs.Answers.{PaperAnswer, paper_if, code, paper_of_outcome, Question, answer_after, paper_after, reader_outcome, span_if, reader_span, reader_part, placed, paper_of_placed, located, paper_of_located, inverse, paper_of_inverse, forward_of, left_of, move_rules, move_question, stake_out, paper_of_move}
 use Rattle.model.specs.Readings.{refuses_reading, answer_to, value_count, paper_of_reading, zero_float, display_of}
 use Rattle.model.specs.Sightings.{turned_of, sighted_of, sighted_to, observed_question, observed_to, observed_count, sighted_move_question, sighted_move}
 use Rattle.model.specs.Run.{shown_of, is_full, run_at, run_bytes, counted, acknowledged}
 use Rattle.model.specs.Calls.{reading_call, acknowledge_call, check_call, write_call, move_size, move_bytes, move_call, stake_out_call, sighting_stake_out_call}
-use Rattle.model.specs.Histories.{Call, read, acknowledge, Came, reading, sighting, All_came, none, asked, acknowledged_next, after_call, after_calls, bytes_after_call, bytes_after_calls, fresh_bytes, demanded}
-use Rattle.model.proofs.Verdict.{reason_numbered, All_hold, more, Cause, order_outcome, refused→first, refused_before, done→all, all→done}
+use Rattle.model.specs.Histories.{Call, read, acknowledge, Came, reading, sighting, AllCame, none, asked, acknowledged_next, after_call, after_calls, bytes_after_call, bytes_after_calls, fresh_bytes, demanded}
+use Rattle.model.proofs.Verdict.{reason_numbered, AllHold, more, Cause, order_outcome, refused→first, refused_before, done→all, all→done}
 use Rattle.model.proofs.Answers.{Tells, told_refused, told_paper, told_exactly, told_answered, station_tells, point_tells, place_tells, move_tells, reading_tells, sighting_tells, sighted_move_tells}
 use Rattle.run.specs.Stored.{Storable}
-use Rattle.run.proofs.Refused.{refuses_numbered, As_read, observed_as_read, Zeros, refusal_shows_zeros}
+use Rattle.run.proofs.Refused.{refuses_numbered, AsRead, observed_as_read, Zeros, refusal_shows_zeros}
 use Rattle.run.proofs.Noting.{noted_counted}
 use Rattle.run.proofs.Calls.{reading_18, reading_16, reading_counted, not_counted_unchanged, acknowledge_18, acknowledge_0}
 use Rattle.model.proofs.Reasons.{first_holds, rest_hold}
 use Rattle.fields.proofs.Bytes.{AllBytes}
 use Rattle.sources.proofs.Sound.{file_sound}
 use Rattle.readings.proofs.Storable.{answer_storable}
-use Rattle.demands.proofs.Histories.{Readings_fit, bytes_spelled, bytes_follow_run, bytes_show_run, bytes_show_demanded, history_keeps, fresh_bytes_keep}
-use Rattle.demands.proofs.Lendings.{Lending, Lent_within, room_after_all, on_run, lent_history}
+use Rattle.demands.proofs.Histories.{ReadingsFit, bytes_spelled, bytes_follow_run, bytes_show_run, bytes_show_demanded, history_keeps, fresh_bytes_keep}
+use Rattle.demands.proofs.Lendings.{Lending, LentWithin, room_after_all, on_run, lent_history}
 
 -- ---- "Any bytes .. end in an answer or in a numbered refusal from the table."
 
 -- a crest is accepted where all its rules hold, and else refused by the first that does not; any bytes are a file's crest
-pub any_crest : (c : Crest) → (check_of c ≡ Done × All_hold c.rules) ⊎ ((why : Refusal) × (check_of c ≡ Refused why) × Cause c.rules why)
+pub any_crest : (c : Crest) → (check_of c ≡ Done × AllHold c.rules) ⊎ ((why : Refusal) × (check_of c ≡ Refused why) × Cause c.rules why)
 any_crest c = order_outcome c.rules
 
-pub any_bytes : (file : List ℕ) → (check_of (file_crest file) ≡ Done × All_hold (crest_rules file)) ⊎ ((why : Refusal) × (check_of (file_crest file) ≡ Refused why) × Cause (crest_rules file) why)
+pub any_bytes : (file : List ℕ) → (check_of (file_crest file) ≡ Done × AllHold (crest_rules file)) ⊎ ((why : Refusal) × (check_of (file_crest file) ≡ Refused why) × Cause (crest_rules file) why)
 any_bytes file = any_crest (file_crest file)
 
 -- whatever is refused has a number of the table
@@ -100,7 +100,7 @@ unfolding reader_outcome
 any_record file r = refused_numbered (crest_rules file ++ (rule₀ asked_out_of_range (ltb r (count_of (record_bytes file))) ∷ []))
 
 -- a position, a plane point, a line place, a stake-out and a sighting's move by value
-any_question : {A : Type 0} {refused : Refusal → A} {paper_of : A → Paper_answer} {q : Question A} → Tells refused paper_of q → (before : List Rule) (why : Refusal) → answer_after before q ≡ refused why → Numbered why
+any_question : {A : Type 0} {refused : Refusal → A} {paper_of : A → PaperAnswer} {q : Question A} → Tells refused paper_of q → (before : List Rule) (why : Refusal) → answer_after before q ≡ refused why → Numbered why
 any_question {q = q} tells before why e = refused_numbered (before ++ q.order) why ((told_exactly tells before why).0 e)
 
 pub any_position : (c : Crest) (s : ℤ) (why : Refusal) → placed c s ≡ PlacedRefused why → Numbered why
@@ -162,7 +162,7 @@ came_numbered (reading c sound r) why e = refuses_numbered why.number (any_readi
 came_numbered (sighting c sound k) why e = refuses_numbered why.number (any_sighting c sound k why e)
 
 -- that is no run's own
-pub came_as_read : {a : ReadingAnswer} → Came a → As_read a
+pub came_as_read : {a : ReadingAnswer} → Came a → AsRead a
 came_as_read (reading c sound r) = any_reading c sound r
 came_as_read (sighting c sound k) = any_sighting c sound k
 
@@ -189,13 +189,13 @@ any_reading_call a run = go (ℕ_discrete (length run) 24) (is_full (run_at run)
     go (yes h) false e = counts h e (reading_counted a run h e)
 
 -- "Acknowledging zeroes only the first number and reading.", of a run's bytes; others get 18
-abbrev pub Acknowledge_ends : List ℕ → Type 0
-Acknowledge_ends run = ((length run ≢ 24) × (acknowledge_call run ≡ (18, run))) ⊎ ((length run ≡ 24) × (acknowledge_call run ≡ (0, run_bytes (acknowledged (run_at run)) run)))
+abbrev pub AcknowledgeEnds : List ℕ → Type 0
+AcknowledgeEnds run = ((length run ≢ 24) × (acknowledge_call run ≡ (18, run))) ⊎ ((length run ≡ 24) × (acknowledge_call run ≡ (0, run_bytes (acknowledged (run_at run)) run)))
 
-pub any_acknowledge_call : (run : List ℕ) → Acknowledge_ends run
+pub any_acknowledge_call : (run : List ℕ) → AcknowledgeEnds run
 any_acknowledge_call run = go (ℕ_discrete (length run) 24)
   where
-    go : Dec (length run ≡ 24) → Acknowledge_ends run
+    go : Dec (length run ≡ 24) → AcknowledgeEnds run
     go (yes h) = inr (h, acknowledge_0 run h)
     go (no h) = inl (h, acknowledge_18 run h)
 
@@ -218,7 +218,7 @@ unfolding code paper_if paper_of_outcome
 paper_code Done values = refl
 paper_code (Refused why) values = refl
 
-question_code : {A : Type 0} {refused : Refusal → A} {paper_of : A → Paper_answer} {q : Question A} → Tells refused paper_of q → (before : List Rule) → code (paper_of (answer_after before q)) ≡ code (paper_of_outcome (verdict (before ++ q.order)))
+question_code : {A : Type 0} {refused : Refusal → A} {paper_of : A → PaperAnswer} {q : Question A} → Tells refused paper_of q → (before : List Rule) → code (paper_of (answer_after before q)) ≡ code (paper_of_outcome (verdict (before ++ q.order)))
 unfolding paper_after
 question_code {q = q} tells before = ap code (told_paper tells before) ∙ paper_code (verdict (before ++ q.order)) q.values
 
@@ -280,7 +280,7 @@ pub any_acknowledge_call_returns : (run : List ℕ) → Returned (acknowledge_ca
 unfolding number
 any_acknowledge_call_returns run = go (any_acknowledge_call run)
   where
-    go : Acknowledge_ends run → Returned (acknowledge_call run).0
+    go : AcknowledgeEnds run → Returned (acknowledge_call run).0
     go (inl (h, e)) = rw e (number_returned wrong_room)
     go (inr (h, e)) = rw e (inl refl)
 
@@ -350,7 +350,7 @@ reading_returns_0 {a} came run = (
 pub acknowledge_returns_0 : (run : List ℕ) → ((acknowledge_call run).0 ≡ 0) ↔ (length run ≡ 24)
 acknowledge_returns_0 run = (go (any_acknowledge_call run), λ h. ap (λ o. o.0) (acknowledge_0 run h))
   where
-    go : Acknowledge_ends run → (acknowledge_call run).0 ≡ 0 → length run ≡ 24
+    go : AcknowledgeEnds run → (acknowledge_call run).0 ≡ 0 → length run ≡ 24
     go (inl (h, e)) z = absurd (omega (arith, ap (λ o. o.0) e))
     go (inr (h, e)) z = h
 
@@ -417,34 +417,34 @@ not_counted {a} came run = not_counted_unchanged a run (came_as_read came)
 
 -- ---- "The run record shows the outcome of the latest counted reading only, and keeps the first counted refusal since the last acknowledgement."
 
-every_fits : {cs : List Call} → All_came cs → Readings_fit cs
+every_fits : {cs : List Call} → AllCame cs → ReadingsFit cs
 every_fits none = tt
 every_fits (asked came rest) = (came_storable came, every_fits rest)
 every_fits (acknowledged_next rest) = (tt, every_fits rest)
 
 -- after every history of calls the bytes of a run that began fresh show what `demanded` says
-pub fresh_bytes_show_demanded : {cs : List Call} → All_came cs → run_at (bytes_after_calls cs fresh_bytes) ≡ demanded cs
+pub fresh_bytes_show_demanded : {cs : List Call} → AllCame cs → run_at (bytes_after_calls cs fresh_bytes) ≡ demanded cs
 fresh_bytes_show_demanded {cs} came = bytes_show_demanded cs (every_fits came)
 
 -- so of readings and sightings on crest files, whatever their bytes, and acknowledgements, in any order
-pub data File_call : Type 0 where
-  read_file : List ℕ → Reading → File_call
-  sight_file : List ℕ → Sighting → File_call
-  acknowledge_run : File_call
+pub data FileCall : Type 0 where
+  read_file : List ℕ → Reading → FileCall
+  sight_file : List ℕ → Sighting → FileCall
+  acknowledge_run : FileCall
 
-abbrev pub calls_of : List File_call → List Call
+abbrev pub calls_of : List FileCall → List Call
 calls_of [] = []
 calls_of (read_file file r ∷ cs) = read (answer_to (file_crest file) r) ∷ calls_of cs
 calls_of (sight_file file k ∷ cs) = read (sighted_to (file_crest file) k) ∷ calls_of cs
 calls_of (acknowledge_run ∷ cs) = acknowledge ∷ calls_of cs
 
-pub files_came : (cs : List File_call) → All_came (calls_of cs)
+pub files_came : (cs : List FileCall) → AllCame (calls_of cs)
 files_came [] = none
 files_came (read_file file r ∷ cs) = asked (file_came file r) (files_came cs)
 files_came (sight_file file k ∷ cs) = asked (file_sighted file k) (files_came cs)
 files_came (acknowledge_run ∷ cs) = acknowledged_next (files_came cs)
 
-pub file_bytes_show_demanded : (cs : List File_call) → run_at (bytes_after_calls (calls_of cs) fresh_bytes) ≡ demanded (calls_of cs)
+pub file_bytes_show_demanded : (cs : List FileCall) → run_at (bytes_after_calls (calls_of cs) fresh_bytes) ≡ demanded (calls_of cs)
 file_bytes_show_demanded cs = fresh_bytes_show_demanded (files_came cs)
 
 -- and its field of zero stays zero
@@ -453,7 +453,7 @@ fresh_zero_stays cs = let k = fresh_bytes_keep cs in (k.1, k.2)
 
 -- "other bytes are taken as the state they spell, by the same rules": after every history of calls any 24 bytes hold the run that the calls make by value of the run
 -- that they spelled at first
-module _ {cs : List Call} (came : All_came cs) (run : List ℕ) (long : length run ≡ 24) (b : AllBytes run) where
+module _ {cs : List Call} (came : AllCame cs) (run : List ℕ) (long : length run ≡ 24) (b : AllBytes run) where
   pub spelled_bytes_go_on : bytes_after_calls cs run ≡ run_bytes (after_calls cs (run_at run)) run
   spelled_bytes_go_on = (bytes_follow_run cs run (bytes_spelled run long b) (every_fits came)).written
 
@@ -468,35 +468,35 @@ refusal_shown (AnswerPlace x y) numbered h = absurd (h refl)
 refusal_shown (AnswerRefused why) numbered h = let n = numbered why refl in (omega (arith, n), record { one = refl; two = refl; three = refl })
 
 -- the latest outcome of a run is a refusal, by what its call returned, and zeros
-abbrev pub Shows_refusal : ℕ → Run → Type 0
-Shows_refusal returned run = (run.latest ≡ returned % 256) × (run.one ≡ pos 0) × (run.two ≡ pos 0) × (run.three ≡ pos 0)
+abbrev pub ShowsRefusal : ℕ → Run → Type 0
+ShowsRefusal returned run = (run.latest ≡ returned % 256) × (run.one ≡ pos 0) × (run.two ≡ pos 0) × (run.three ≡ pos 0)
 
 -- So a refusal that is counted leaves its number in the run's 24 bytes and zeros for station, offset and residual, whatever stood there before: a call that returns neither
 -- 0, 16 nor 18.
 pub counted_refusal_shows_zeros : {a : ReadingAnswer} → Came a → (run : List ℕ) → AllBytes run → (reading_call a run).0 ≢ 0 → (reading_call a run).0 ≢ 16 → (reading_call a run).0 ≢ 18 →
-    Shows_refusal (reading_call a run).0 (run_at (reading_call a run).1)
+    ShowsRefusal (reading_call a run).0 (run_at (reading_call a run).1)
 unfolding bytes_after_calls bytes_after_call after_calls after_call counted
 counted_refusal_shows_zeros {a} came run b not-0 not_16 not-18 = go (any_reading_call a run)
   where
-    go : ReadingEnds a run → Shows_refusal (reading_call a run).0 (run_at (reading_call a run).1)
+    go : ReadingEnds a run → ShowsRefusal (reading_call a run).0 (run_at (reading_call a run).1)
     go (no_run h e) = absurd (not-18 (ap (λ o. o.0) e))
     go (run_full_lem h f e) = absurd (not_16 (ap (λ o. o.0) e))
     go (counts h f e) =
         let returned = ap (λ o. o.0) e in
         let shown = refusal_shown a (came_numbered came) (λ z. not-0 (returned ∙ z)) in
         let after = spelled_run_goes_on (asked came none) run h b ∙ ap (λ n. n.run) (noted_counted a (run_at run) f) in
-        subst (Shows_refusal (reading_call a run).0) (sym after) (shown.0 ∙ ap (λ n. n % 256) (sym returned), shown.1.one, shown.1.two, shown.1.three)
+        subst (ShowsRefusal (reading_call a run).0) (sym after) (shown.0 ∙ ap (λ n. n % 256) (sym returned), shown.1.one, shown.1.two, shown.1.three)
 
 -- "(the zero is neither read nor changed)": bytes 10 and 11 of any bytes are as they came
 pub zero_stays : (cs : List Call) (run : List ℕ) → (byte_at (bytes_after_calls cs run) 10 ≡ byte_at run 10) × (byte_at (bytes_after_calls cs run) 11 ≡ byte_at run 11)
 zero_stays cs run = let k = history_keeps cs run in (k.tenth, k.eleventh)
 
 -- The same where the run lies at the front of a longer room, of which each call is lent any number of bytes: those lent other than 24 leave no trace.
-module _ (cs : List Lending) (rest : List ℕ) (within : Lent_within (length (fresh_bytes ++ rest)) cs) where
+module _ (cs : List Lending) (rest : List ℕ) (within : LentWithin (length (fresh_bytes ++ rest)) cs) where
   pub fresh_room_bytes : (take 24 (room_after_all cs (fresh_bytes ++ rest)) ≡ bytes_after_calls (on_run cs) fresh_bytes) × (drop 24 (room_after_all cs (fresh_bytes ++ rest)) ≡ rest)
   fresh_room_bytes =
       let lent = lent_history cs (fresh_bytes ++ rest) (omega (arith, length-append fresh_bytes rest)) within in
       (lent.0 ∙ ap (bytes_after_calls (on_run cs)) (take-append_seam fresh_bytes rest), lent.1 ∙ drop-append_seam fresh_bytes rest)
 
-  pub fresh_room_shows_demanded : All_came (on_run cs) → run_at (take 24 (room_after_all cs (fresh_bytes ++ rest))) ≡ demanded (on_run cs)
+  pub fresh_room_shows_demanded : AllCame (on_run cs) → run_at (take 24 (room_after_all cs (fresh_bytes ++ rest))) ≡ demanded (on_run cs)
   fresh_room_shows_demanded came = ap run_at fresh_room_bytes.0 ∙ fresh_bytes_show_demanded came

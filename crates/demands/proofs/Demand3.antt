@@ -31,7 +31,7 @@ use Rattle.model.specs.Crest.{Crest, check_of, is_own, SoundCrest}
 use Rattle.model.specs.Stations.{total, distance_sq, D}
 use Rattle.model.specs.Judged.{judged, residual_at}
 use Rattle.model.specs.Walk.{first_visits, best_of, second_visits, visits, is_in}
-use Rattle.model.specs.Answers.{Paper_answer, Question, answer_after, reader_outcome, station_rules, station_question, placed, located_on, located, line_rules, place_question, inverse, move_rules, move_question, stake_out}
+use Rattle.model.specs.Answers.{PaperAnswer, Question, answer_after, reader_outcome, station_rules, station_question, placed, located_on, located, line_rules, place_question, inverse, move_rules, move_question, stake_out}
 use Rattle.model.specs.Sightings.{sighted_of, sighted_to, sighted_move}
 use Rattle.model.specs.Writer.{count_fits, blocks_needed, writer_rules, writer_outcome}
 use Rattle.model.specs.Records.{block_size}
@@ -42,7 +42,7 @@ use Rattle.sources.proofs.Sound.{file_sound}
 use Rattle.model.proofs.Reasons.{Lacks, empty, other, lacks-++, lacks_other, lacks→not_given}
 use Rattle.walk_laws.proofs.Spaced as spaced
 use Rattle.walk_laws.proofs.Walked as walked
-use Rattle.walk_laws.proofs.Outcomes.{Answered, Too_far, Before_start, After_end}
+use Rattle.walk_laws.proofs.Outcomes.{Answered, TooFar, BeforeStart, AfterEnd}
 use Rattle.walk_laws.proofs.Outcomes as outcomes
 use Rattle.demands.proofs.SightOrders.{Sights}
 use Rattle.demands.proofs.SightingRefusals.{sighted_move_only}
@@ -139,13 +139,13 @@ module _ (c : Crest) (sound : SoundCrest c) (k : Sighting) where
   sighting_answer_of_walk station offset residual count e = let a = ((sightings.sighting_answered c sound.own k station offset residual count).0 e).2 in (a.station, a.count)
 
   -- "no refusal that comes earlier in the order of document 01 or of a later request applies": the crest and the sighting refuse nothing
-  pub sighting_refused_12 : (sighted_to c k ≡ AnswerRefused (refusal too_far 0)) ↔ ((check_of c ≡ Done) × Sights k × Too_far c.elements (sighted_of k))
+  pub sighting_refused_12 : (sighted_to c k ≡ AnswerRefused (refusal too_far 0)) ↔ ((check_of c ≡ Done) × Sights k × TooFar c.elements (sighted_of k))
   sighting_refused_12 = sightings.sighting_refused_12 c sound.own k
 
-  pub sighting_refused_13 : (sighted_to c k ≡ AnswerRefused (refusal before_start 0)) ↔ ((check_of c ≡ Done) × Sights k × Before_start c.elements (sighted_of k))
+  pub sighting_refused_13 : (sighted_to c k ≡ AnswerRefused (refusal before_start 0)) ↔ ((check_of c ≡ Done) × Sights k × BeforeStart c.elements (sighted_of k))
   sighting_refused_13 = sightings.sighting_refused_13 c sound.own k
 
-  pub sighting_refused_14 : (sighted_to c k ≡ AnswerRefused (refusal after_end 0)) ↔ ((check_of c ≡ Done) × Sights k × After_end c.elements (sighted_of k))
+  pub sighting_refused_14 : (sighted_to c k ≡ AnswerRefused (refusal after_end 0)) ↔ ((check_of c ≡ Done) × Sights k × AfterEnd c.elements (sighted_of k))
   sighting_refused_14 = sightings.sighting_refused_14 c sound.own k
 
   pub sighting_answered_else : (station : ℕ) (offset residual : ℤ) (count : ℕ) →
@@ -163,7 +163,7 @@ module _ (why : Refusal) (low : 12 ≤ why.number) (high : why.number ≤ 14) wh
   own_lacks : {rs : List Rule} → Gives is_own rs → Lacks why.number rs
   own_lacks own = lacks_other own (own_apart why.number (omega arith) (omega arith))
 
-  never : {A : Type 0} {refused : Refusal → A} {paper_of : A → Paper_answer} {q : Question A} → Tells refused paper_of q → (before : List Rule) → Lacks why.number before → Lacks why.number q.order → answer_after before q ≢ refused why
+  never : {A : Type 0} {refused : Refusal → A} {paper_of : A → PaperAnswer} {q : Question A} → Tells refused paper_of q → (before : List Rule) → Lacks why.number before → Lacks why.number q.order → answer_after before q ≢ refused why
   never tells before j k e = lacks→not_given (lacks-++ j k) ((told_exactly tells before why).0 e)
 
   pub position_not_judged : (c : Crest) → SoundCrest c → (s : ℤ) → placed c s ≢ PlacedRefused why

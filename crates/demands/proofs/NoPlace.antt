@@ -22,7 +22,7 @@ use Rattle.model.specs.Records.{record_bytes, block_count}
 use Rattle.model.specs.Acceptance.{sum_rules, field_rules, blocks_rules, crest_rules}
 use Rattle.model.specs.Crest.{Crest, check_of, is_own}
 use Rattle.model.specs.Writer.{writer_rules, writer_outcome}
-use Rattle.model.specs.Answers.{Paper_answer, Question, answer_after, reader_outcome, placed, located, inverse, stake_out}
+use Rattle.model.specs.Answers.{PaperAnswer, Question, answer_after, reader_outcome, placed, located, inverse, stake_out}
 use Rattle.model.specs.Readings.{answer_to}
 use Rattle.model.specs.Sightings.{sighted_to, sighted_move}
 use Rattle.model.proofs.RuleNumbers.{records_own}
@@ -67,7 +67,7 @@ bare_at_0 bare-none = none
 bare_at_0 (bare-next e k) = next (λ _. e) (bare_at_0 k)
 
 -- a question whose own rules have none, after others
-question_at_0 : {A : Type 0} {refused : Refusal → A} {paper_of : A → Paper_answer} {q : Question A} → Tells refused paper_of q → (before : List Rule) {w : Refusal} → At0 w.number before → answer_after before q ≡ refused w → w.place ≡ 0
+question_at_0 : {A : Type 0} {refused : Refusal → A} {paper_of : A → PaperAnswer} {q : Question A} → Tells refused paper_of q → (before : List Rule) {w : Refusal} → At0 w.number before → answer_after before q ≡ refused w → w.place ≡ 0
 question_at_0 tells before {w} k e = given_at_0 (at_0-++ k (bare_at_0 tells.bare)) ((told_exactly tells before w).0 e)
 
 -- ---- "else": the numbers to which a crest gives no place

@@ -12,7 +12,7 @@ use Rattle.model.specs.Crest.{check_of, file_crest}
 use Rattle.model.specs.Refusals.{Rule, verdict, for_each}
 use Rattle.model.specs.Acceptance.{element_of, element_bytes, record_rules, element_at, each_record, records_rules, elements_of, crest_elements, elements_bytes}
 use Rattle.model.specs.Writer.{blocks_from, file_of, room_after, written}
-use Rattle.model.proofs.Verdict.{All_hold, more, all→done}
+use Rattle.model.proofs.Verdict.{AllHold, more, all→done}
 use Rattle.fields.proofs.Bytes.{AllBytes, part_bytes}
 use Rattle.records.proofs.RecordBytes.{record_same, each_same}
 use Rattle.crestfile.proofs.WriterRules.{rules_but_room, writer_done}
@@ -61,7 +61,7 @@ records_of_elements file b e =
     own : ℕ → List Rule
     own r = record_rules (record_of bytes r) r
 
-    one : (k : ℕ) → k < count_of bytes → All_hold (own k) → element_bytes (element_of (record_of bytes k)) ≡ record_of bytes k
+    one : (k : ℕ) → k < count_of bytes → AllHold (own k) → element_bytes (element_of (record_of bytes k)) ≡ record_of bytes k
     one k h a =
         let (same, within, long) = record_part file k e h in
         record_same (record_of bytes k) k (rw same at long) (subst AllBytes same (part_bytes file (record_start k) 32 b)) a

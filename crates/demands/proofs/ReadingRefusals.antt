@@ -24,7 +24,7 @@ use Rattle.model.specs.Refusals.{Reason, number, refusal, not_whole, outside_fra
 use Rattle.model.specs.Acceptance.{in_frame}
 use Rattle.model.specs.Crest.{Crest, check_of, is_own, SoundCrest}
 use Rattle.model.specs.Stations.{is_station}
-use Rattle.model.specs.Answers.{Paper_answer, code, Question, answer_after, point_rules, point_question, located, inverse_at, line_rules, place_question, inverse}
+use Rattle.model.specs.Answers.{PaperAnswer, code, Question, answer_after, point_rules, point_question, located, inverse_at, line_rules, place_question, inverse}
 use Rattle.model.specs.Readings.{Whole, whole, none, whole_of, is_whole, value_of, number_rules, from_located, from_inverse, put_after, reading_question, answer_to, paper_of_reading}
 use Rattle.model.specs.Run.{is_full, run_at}
 use Rattle.model.specs.Calls.{reading_call}
@@ -33,7 +33,7 @@ use Rattle.model.proofs.Verdict.{done→all, all→done, reason_numbered}
 use Rattle.model.proofs.RuleNumbers.{own_apart}
 use Rattle.model.proofs.Answers.{Tells, point_tells, place_tells, reading_tells}
 use Rattle.model.proofs.ForEach.{holds_one, one_holds}
-use Rattle.walk_laws.proofs.Outcomes.{Too_far, Before_start, After_end, Answered, crest_outside_frame, crest_too_far, crest_before_start, crest_after_end}
+use Rattle.walk_laws.proofs.Outcomes.{TooFar, BeforeStart, AfterEnd, Answered, crest_outside_frame, crest_too_far, crest_before_start, crest_after_end}
 use Rattle.model.proofs.Reasons.{Lacks, empty, other}
 use Rattle.run.proofs.Calls.{reading_counted}
 use Rattle.integers.proofs.Tests.{and_fails}
@@ -57,20 +57,20 @@ not_both_whole a b =
     Iff.trans (and_fails (is_whole a) (is_whole b)) (⊎_map f.0 g.0, ⊎_map f.1 g.1)
 
 -- both numbers of a reading are whole
-abbrev pub Both_whole : Float → Float → Type 0
-Both_whole x y = (is_whole (whole_of x) ≡ true) × (is_whole (whole_of y) ≡ true)
+abbrev pub BothWhole : Float → Float → Type 0
+BothWhole x y = (is_whole (whole_of x) ≡ true) × (is_whole (whole_of y) ≡ true)
 
 -- the point of two whole numbers
 abbrev pub point_read : Float → Float → Point
 point_read x y = record { x = value_of (whole_of x); y = value_of (whole_of y) }
 
 -- station and offset are in range, and the point there lies outside the frame
-abbrev pub Outside_asked : List Element → ℤ → ℤ → Type 0
-Outside_asked es s w =
+abbrev pub OutsideAsked : List Element → ℤ → ℤ → Type 0
+OutsideAsked es s w =
     ((is_station es s ≡ true) × (nat_abs w ≤ 20000000)) × (in_frame (inverse_at es (nat_abs s) w).x (inverse_at es (nat_abs s) w).y ≡ false)
 
 -- the rule of its numbers
-whole_hold : (x y : Float) → (verdict (number_rules x y) ≡ Done) ↔ Both_whole x y
+whole_hold : (x y : Float) → (verdict (number_rules x y) ≡ Done) ↔ BothWhole x y
 unfolding number_rules
 whole_hold x y =
     let both = and-eq-true_iff (is_whole (whole_of x)) (is_whole (whole_of y)) in
@@ -94,28 +94,28 @@ module _ (c : Crest) (own : Gives is_own c.rules) (x y : Float) where
   w = value_of (whole_of y)
 
   -- of whole numbers it is refused as the point or the place of these numbers is
-  pub point_refused_as : (why : Refusal) → is_own why.number ≡ false → why.number ≢ 10 → (answer_to c (PlanePoint x y) ≡ AnswerRefused why) ↔ (Both_whole x y × (located c (point_read x y) ≡ LocatedRefused why))
+  pub point_refused_as : (why : Refusal) → is_own why.number ≡ false → why.number ≢ 10 → (answer_to c (PlanePoint x y) ≡ AnswerRefused why) ↔ (BothWhole x y × (located c (point_read x y) ≡ LocatedRefused why))
   unfolding reading_question
   point_refused_as why later others =
       Iff.trans (refused_as c (number_rules x y) own from_located _ (point_tells (point_read x y) es) (reading_tells (PlanePoint x y) es) why later (lacks_whole x y others)) (Iff.and (whole_hold x y) Iff.rfl)
 
-  pub place_refused_as : (why : Refusal) → is_own why.number ≡ false → why.number ≢ 10 → (answer_to c (LinePlace x y) ≡ AnswerRefused why) ↔ (Both_whole x y × (inverse c s w ≡ InverseRefused why))
+  pub place_refused_as : (why : Refusal) → is_own why.number ≡ false → why.number ≢ 10 → (answer_to c (LinePlace x y) ≡ AnswerRefused why) ↔ (BothWhole x y × (inverse c s w ≡ InverseRefused why))
   unfolding reading_question
   place_refused_as why later others =
       Iff.trans (refused_as c (number_rules x y) own from_inverse _ (place_tells s w es) (reading_tells (LinePlace x y) es) why later (lacks_whole x y others)) (Iff.and (whole_hold x y) Iff.rfl)
 
   -- and comes to what that does
-  pub point_reading : Both_whole x y → answer_to c (PlanePoint x y) ≡ from_located (located c (point_read x y))
+  pub point_reading : BothWhole x y → answer_to c (PlanePoint x y) ≡ from_located (located c (point_read x y))
   unfolding reading_question point_question from_located
   point_reading h = came_as c (number_rules x y) from_located _ (λ why. refl) ((whole_hold x y).1 h)
 
-  pub place_reading : Both_whole x y → answer_to c (LinePlace x y) ≡ from_inverse (inverse c s w)
+  pub place_reading : BothWhole x y → answer_to c (LinePlace x y) ≡ from_inverse (inverse c s w)
   unfolding reading_question place_question from_inverse
   place_reading h = came_as c (number_rules x y) from_inverse _ (λ why. refl) ((whole_hold x y).1 h)
 
   -- "A point that meets no refusal is answered, and the station answered is the one judged.", of a plane reading
   pub reading_answered : (station : ℕ) (offset residual : ℤ) (count : ℕ) → (answer_to c (PlanePoint x y) ≡ AnswerPoint station offset residual count)
-      ↔ ((check_of c ≡ Done) × Both_whole x y × Answered c.elements (point_read x y) station offset residual count)
+      ↔ ((check_of c ≡ Done) × BothWhole x y × Answered c.elements (point_read x y) station offset residual count)
   unfolding reading_question
   reading_answered station offset residual count =
       point_answered c (number_rules x y) own (whole_hold x y) (point_read x y) station offset residual count
@@ -150,7 +150,7 @@ module _ (c : Crest) (own : Gives is_own c.rules) (x y : Float) where
 
   -- ---- 10: "a reading's number not finite or not whole"
 
-  refused_10 : {A : Type 0} {refused : Refusal → A} {paper_of : A → Paper_answer} {paper : ReadingAnswer → Paper_answer} (from : A → ReadingAnswer) (q : Question A) → Tells refused paper_of q → Tells AnswerRefused paper (put_after (number_rules x y) from q) →
+  refused_10 : {A : Type 0} {refused : Refusal → A} {paper_of : A → PaperAnswer} {paper : ReadingAnswer → PaperAnswer} (from : A → ReadingAnswer) (q : Question A) → Tells refused paper_of q → Tells AnswerRefused paper (put_after (number_rules x y) from q) →
       Lacks 10 q.order → (answer_after c.rules (put_after (number_rules x y) from q) ≡ AnswerRefused (refusal not_whole 0)) ↔ ((check_of c ≡ Done) × ((whole_of x ≡ none) ⊎ (whole_of y ≡ none)))
   unfolding number_rules number is_own
   refused_10 from q tells asks lacks =
@@ -170,40 +170,40 @@ module _ (c : Crest) (own : Gives is_own c.rules) (x y : Float) where
 
   -- of a plane point: 11, 12, 13 and 14, where the crest is accepted and both numbers are whole
   point_given : (why : Reason) {C : Type 0} → is_own (number why) ≡ false → number why ≢ 10 → ((located c (point_read x y) ≡ LocatedRefused (refusal why 0)) ↔ ((check_of c ≡ Done) × C)) →
-      (answer_to c (PlanePoint x y) ≡ AnswerRefused (refusal why 0)) ↔ ((check_of c ≡ Done) × Both_whole x y × C)
+      (answer_to c (PlanePoint x y) ≡ AnswerRefused (refusal why 0)) ↔ ((check_of c ≡ Done) × BothWhole x y × C)
   unfolding reading_question
   point_given why later others = given_as c (number_rules x y) own from_located _ (point_tells (point_read x y) es) (reading_tells (PlanePoint x y) es) why later (lacks_whole x y others) (whole_hold x y)
 
   pub reading_refused_11 : (answer_to c (PlanePoint x y) ≡ AnswerRefused (refusal outside_frame 0))
-      ↔ ((check_of c ≡ Done) × Both_whole x y × (in_frame (value_of (whole_of x)) (value_of (whole_of y)) ≡ false))
+      ↔ ((check_of c ≡ Done) × BothWhole x y × (in_frame (value_of (whole_of x)) (value_of (whole_of y)) ≡ false))
   unfolding number is_own
   reading_refused_11 = point_given outside_frame refl (λ e. omega arith) (crest_outside_frame c own (point_read x y))
 
-  pub reading_refused_12 : (answer_to c (PlanePoint x y) ≡ AnswerRefused (refusal too_far 0)) ↔ ((check_of c ≡ Done) × Both_whole x y × Too_far c.elements (point_read x y))
+  pub reading_refused_12 : (answer_to c (PlanePoint x y) ≡ AnswerRefused (refusal too_far 0)) ↔ ((check_of c ≡ Done) × BothWhole x y × TooFar c.elements (point_read x y))
   unfolding number is_own
   reading_refused_12 = point_given too_far refl (λ e. omega arith) (crest_too_far c own (point_read x y))
 
-  pub reading_refused_13 : (answer_to c (PlanePoint x y) ≡ AnswerRefused (refusal before_start 0)) ↔ ((check_of c ≡ Done) × Both_whole x y × Before_start c.elements (point_read x y))
+  pub reading_refused_13 : (answer_to c (PlanePoint x y) ≡ AnswerRefused (refusal before_start 0)) ↔ ((check_of c ≡ Done) × BothWhole x y × BeforeStart c.elements (point_read x y))
   unfolding number is_own
   reading_refused_13 = point_given before_start refl (λ e. omega arith) (crest_before_start c own (point_read x y))
 
-  pub reading_refused_14 : (answer_to c (PlanePoint x y) ≡ AnswerRefused (refusal after_end 0)) ↔ ((check_of c ≡ Done) × Both_whole x y × After_end c.elements (point_read x y))
+  pub reading_refused_14 : (answer_to c (PlanePoint x y) ≡ AnswerRefused (refusal after_end 0)) ↔ ((check_of c ≡ Done) × BothWhole x y × AfterEnd c.elements (point_read x y))
   unfolding number is_own
   reading_refused_14 = point_given after_end refl (λ e. omega arith) (crest_after_end c own (point_read x y))
 
   -- of a line place: 15, and 11 of the resulting point
   place_given : (why : Reason) {C : Type 0} → is_own (number why) ≡ false → number why ≢ 10 → ((inverse c s w ≡ InverseRefused (refusal why 0)) ↔ ((check_of c ≡ Done) × C)) →
-      (answer_to c (LinePlace x y) ≡ AnswerRefused (refusal why 0)) ↔ ((check_of c ≡ Done) × Both_whole x y × C)
+      (answer_to c (LinePlace x y) ≡ AnswerRefused (refusal why 0)) ↔ ((check_of c ≡ Done) × BothWhole x y × C)
   unfolding reading_question
   place_given why later others = given_as c (number_rules x y) own from_inverse _ (place_tells s w es) (reading_tells (LinePlace x y) es) why later (lacks_whole x y others) (whole_hold x y)
 
   pub reading_refused_15 : (answer_to c (LinePlace x y) ≡ AnswerRefused (refusal asked_out_of_range 0))
-      ↔ ((check_of c ≡ Done) × Both_whole x y × ((is_station c.elements s ≡ false) ⊎ (20000000 < nat_abs w)))
+      ↔ ((check_of c ≡ Done) × BothWhole x y × ((is_station c.elements s ≡ false) ⊎ (20000000 < nat_abs w)))
   unfolding number is_own
   reading_refused_15 = place_given asked_out_of_range refl (λ e. omega arith) (place_refused_15 c own s w)
 
   pub reading_refused_11_resulting : (answer_to c (LinePlace x y) ≡ AnswerRefused (refusal outside_frame 0)) ↔
-      ((check_of c ≡ Done) × Both_whole x y × Outside_asked c.elements s w)
+      ((check_of c ≡ Done) × BothWhole x y × OutsideAsked c.elements s w)
   unfolding number is_own
   reading_refused_11_resulting =
       place_given outside_frame refl (λ e. omega arith)
@@ -252,19 +252,19 @@ module _ (c : Crest) (sound : SoundCrest c) (x y : Float) (run : List ℕ) where
   unfolding number
   plane_call_refused_10 = call_given (reading c sound (PlanePoint x y)) run not_whole (λ e. omega arith) (λ e. omega arith) (point_refused_10 c sound.own x y)
 
-  pub plane_call_refused_11 : ((reading_call (answer_to c (PlanePoint x y)) run).0 ≡ 11) ↔ ((length run ≡ 24) × (is_full (run_at run) ≡ false) × ((check_of c ≡ Done) × Both_whole x y × (in_frame (value_of (whole_of x)) (value_of (whole_of y)) ≡ false)))
+  pub plane_call_refused_11 : ((reading_call (answer_to c (PlanePoint x y)) run).0 ≡ 11) ↔ ((length run ≡ 24) × (is_full (run_at run) ≡ false) × ((check_of c ≡ Done) × BothWhole x y × (in_frame (value_of (whole_of x)) (value_of (whole_of y)) ≡ false)))
   unfolding number
   plane_call_refused_11 = call_given (reading c sound (PlanePoint x y)) run outside_frame (λ e. omega arith) (λ e. omega arith) (reading_refused_11 c sound.own x y)
 
-  pub plane_call_refused_12 : ((reading_call (answer_to c (PlanePoint x y)) run).0 ≡ 12) ↔ ((length run ≡ 24) × (is_full (run_at run) ≡ false) × ((check_of c ≡ Done) × Both_whole x y × Too_far c.elements (point_read x y)))
+  pub plane_call_refused_12 : ((reading_call (answer_to c (PlanePoint x y)) run).0 ≡ 12) ↔ ((length run ≡ 24) × (is_full (run_at run) ≡ false) × ((check_of c ≡ Done) × BothWhole x y × TooFar c.elements (point_read x y)))
   unfolding number
   plane_call_refused_12 = call_given (reading c sound (PlanePoint x y)) run too_far (λ e. omega arith) (λ e. omega arith) (reading_refused_12 c sound.own x y)
 
-  pub plane_call_refused_13 : ((reading_call (answer_to c (PlanePoint x y)) run).0 ≡ 13) ↔ ((length run ≡ 24) × (is_full (run_at run) ≡ false) × ((check_of c ≡ Done) × Both_whole x y × Before_start c.elements (point_read x y)))
+  pub plane_call_refused_13 : ((reading_call (answer_to c (PlanePoint x y)) run).0 ≡ 13) ↔ ((length run ≡ 24) × (is_full (run_at run) ≡ false) × ((check_of c ≡ Done) × BothWhole x y × BeforeStart c.elements (point_read x y)))
   unfolding number
   plane_call_refused_13 = call_given (reading c sound (PlanePoint x y)) run before_start (λ e. omega arith) (λ e. omega arith) (reading_refused_13 c sound.own x y)
 
-  pub plane_call_refused_14 : ((reading_call (answer_to c (PlanePoint x y)) run).0 ≡ 14) ↔ ((length run ≡ 24) × (is_full (run_at run) ≡ false) × ((check_of c ≡ Done) × Both_whole x y × After_end c.elements (point_read x y)))
+  pub plane_call_refused_14 : ((reading_call (answer_to c (PlanePoint x y)) run).0 ≡ 14) ↔ ((length run ≡ 24) × (is_full (run_at run) ≡ false) × ((check_of c ≡ Done) × BothWhole x y × AfterEnd c.elements (point_read x y)))
   unfolding number
   plane_call_refused_14 = call_given (reading c sound (PlanePoint x y)) run after_end (λ e. omega arith) (λ e. omega arith) (reading_refused_14 c sound.own x y)
 
@@ -277,11 +277,11 @@ module _ (c : Crest) (sound : SoundCrest c) (x y : Float) (run : List ℕ) where
   unfolding number
   line_call_refused_10 = call_given (reading c sound (LinePlace x y)) run not_whole (λ e. omega arith) (λ e. omega arith) (place_refused_10 c sound.own x y)
 
-  pub line_call_refused_15 : ((reading_call (answer_to c (LinePlace x y)) run).0 ≡ 15) ↔ ((length run ≡ 24) × (is_full (run_at run) ≡ false) × ((check_of c ≡ Done) × Both_whole x y × ((is_station c.elements (value_of (whole_of x)) ≡ false) ⊎ (20000000 < nat_abs (value_of (whole_of y))))))
+  pub line_call_refused_15 : ((reading_call (answer_to c (LinePlace x y)) run).0 ≡ 15) ↔ ((length run ≡ 24) × (is_full (run_at run) ≡ false) × ((check_of c ≡ Done) × BothWhole x y × ((is_station c.elements (value_of (whole_of x)) ≡ false) ⊎ (20000000 < nat_abs (value_of (whole_of y))))))
   unfolding number
   line_call_refused_15 = call_given (reading c sound (LinePlace x y)) run asked_out_of_range (λ e. omega arith) (λ e. omega arith) (reading_refused_15 c sound.own x y)
 
-  pub line_call_refused_11 : ((reading_call (answer_to c (LinePlace x y)) run).0 ≡ 11) ↔ ((length run ≡ 24) × (is_full (run_at run) ≡ false) × ((check_of c ≡ Done) × Both_whole x y × Outside_asked c.elements (value_of (whole_of x)) (value_of (whole_of y))))
+  pub line_call_refused_11 : ((reading_call (answer_to c (LinePlace x y)) run).0 ≡ 11) ↔ ((length run ≡ 24) × (is_full (run_at run) ≡ false) × ((check_of c ≡ Done) × BothWhole x y × OutsideAsked c.elements (value_of (whole_of x)) (value_of (whole_of y))))
   unfolding number
   line_call_refused_11 = call_given (reading c sound (LinePlace x y)) run outside_frame (λ e. omega arith) (λ e. omega arith) (reading_refused_11_resulting c sound.own x y)
 

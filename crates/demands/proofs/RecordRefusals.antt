@@ -17,7 +17,7 @@ use Rattle.model.specs.Kinds.{decide}
 use Rattle.model.specs.Records.{byte_at, count_of, record_of}
 use Rattle.model.specs.Refusals.{Reason, damaged_record, later_kind, field_out_of_range, not_unit, gap, kink, Rule, rule, number, refusal, verdict, for_each}
 use Rattle.model.specs.Acceptance.{is_damaged, is_later, element_of, reserved_zero, ranges_good, is_unit, record_rules, meets, continues, join_rules, element_at, each_record, each_join, records_rules}
-use Rattle.model.proofs.Verdict.{All_hold, none, more, done→all, all→done}
+use Rattle.model.proofs.Verdict.{AllHold, none, more, done→all, all→done}
 use Rattle.model.proofs.ForEach.{all_append, append_all, each→all, all→each}
 use Rattle.model.proofs.Reasons.{Lacks, empty, other, lacks-++, first_holds, rest_hold, given_exactly}
 use Rattle.model.proofs.AfterCrest.{first_given}
@@ -26,24 +26,24 @@ use Rattle.demands.proofs.Places.{two_parts, lacks_rule, lacks_for_each, AllAt, 
 -- ---- one record
 
 -- its kind is one of the four known
-abbrev pub Kind_known : List ℕ → Type 0
-Kind_known this = (is_damaged (decide (byte_at this 0)) ≡ false) × (is_later (decide (byte_at this 0)) ≡ false)
+abbrev pub KindKnown : List ℕ → Type 0
+KindKnown this = (is_damaged (decide (byte_at this 0)) ≡ false) × (is_later (decide (byte_at this 0)) ≡ false)
 
 -- "damaged kind, or a nonzero byte 1 to 3 or 28 to 31 of a used record"; a later kind is refused with 5, before its reserved bytes are
-abbrev pub Record_gives4 : List ℕ → Type 0
-Record_gives4 this = (is_damaged (decide (byte_at this 0)) ≡ true) ⊎ (Kind_known this × (reserved_zero this ≡ false))
+abbrev pub RecordGives4 : List ℕ → Type 0
+RecordGives4 this = (is_damaged (decide (byte_at this 0)) ≡ true) ⊎ (KindKnown this × (reserved_zero this ≡ false))
 
 -- "kind 5 to 15"
-abbrev pub Record_gives5 : List ℕ → Type 0
-Record_gives5 this = is_later (decide (byte_at this 0)) ≡ true
+abbrev pub RecordGives5 : List ℕ → Type 0
+RecordGives5 this = is_later (decide (byte_at this 0)) ≡ true
 
 -- "length, radius, x or y out of range"
-abbrev pub Record_gives6 : List ℕ → Type 0
-Record_gives6 this = Kind_known this × (reserved_zero this ≡ true) × (ranges_good (element_of this) ≡ false)
+abbrev pub RecordGives6 : List ℕ → Type 0
+RecordGives6 this = KindKnown this × (reserved_zero this ≡ true) × (ranges_good (element_of this) ≡ false)
 
 -- "direction not a unit (record ..)"
-abbrev pub Record_gives7 : List ℕ → Type 0
-Record_gives7 this = Kind_known this × (reserved_zero this ≡ true) × (ranges_good (element_of this) ≡ true) × (is_unit (element_of this).c (element_of this).s ≡ false)
+abbrev pub RecordGives7 : List ℕ → Type 0
+RecordGives7 this = KindKnown this × (reserved_zero this ≡ true) × (ranges_good (element_of this) ≡ true) × (is_unit (element_of this).c (element_of this).s ≡ false)
 
 not_both : (k : KindByte) → is_later k ≡ true → is_damaged k ≡ false
 unfolding is_later is_damaged
@@ -67,7 +67,7 @@ module _ (this : List ℕ) (r : ℕ) where
   abbrev unit : Rule
   unit = rule not_unit r (is_unit (element_of this).c (element_of this).s)
 
-  pub record_gives_4 : (verdict (record_rules this r) ≡ Refused (refusal damaged_record r)) ↔ Record_gives4 this
+  pub record_gives_4 : (verdict (record_rules this r) ≡ Refused (refusal damaged_record r)) ↔ RecordGives4 this
   unfolding record_rules number
   record_gives_4 =
       let one = first_given damaged [] empty in
@@ -79,7 +79,7 @@ module _ (this : List ℕ) (r : ℕ) where
             (λ x. (all→done (more (ap not x.0.0) none), two.1 (more (ap not x.0.1) none, x.1))),
       )
 
-  pub record_gives_5 : (verdict (record_rules this r) ≡ Refused (refusal later_kind r)) ↔ Record_gives5 this
+  pub record_gives_5 : (verdict (record_rules this r) ≡ Refused (refusal later_kind r)) ↔ RecordGives5 this
   unfolding record_rules number
   record_gives_5 =
       Iff.trans
@@ -88,13 +88,13 @@ module _ (this : List ℕ) (r : ℕ) where
         (λ e. (more (ap not (not_both (decide (byte_at this 0)) e)) none, ap not e)),
       )
 
-  known : {rs : List Rule} → All_hold (damaged ∷ later ∷ rs) ↔ (Kind_known this × All_hold rs)
+  known : {rs : List Rule} → AllHold (damaged ∷ later ∷ rs) ↔ (KindKnown this × AllHold rs)
   known = (
     (λ a. ((not-true _ (first_holds a), not-true _ (first_holds (rest_hold a))), rest_hold (rest_hold a))),
     (λ x. more (ap not x.0.0) (more (ap not x.0.1) x.1)),
   )
 
-  pub record_gives_6 : (verdict (record_rules this r) ≡ Refused (refusal field_out_of_range r)) ↔ Record_gives6 this
+  pub record_gives_6 : (verdict (record_rules this r) ≡ Refused (refusal field_out_of_range r)) ↔ RecordGives6 this
   unfolding record_rules number
   record_gives_6 =
       Iff.trans
@@ -103,7 +103,7 @@ module _ (this : List ℕ) (r : ℕ) where
         (λ x. (known.1 (x.0, more x.1 none), x.2)),
       )
 
-  pub record_gives_7 : (verdict (record_rules this r) ≡ Refused (refusal not_unit r)) ↔ Record_gives7 this
+  pub record_gives_7 : (verdict (record_rules this r) ≡ Refused (refusal not_unit r)) ↔ RecordGives7 this
   unfolding record_rules number
   record_gives_7 =
       Iff.trans
@@ -115,19 +115,19 @@ module _ (this : List ℕ) (r : ℕ) where
 -- ---- one join
 
 -- "gap .. at a join"
-abbrev pub Join_gives8 : Element → Element → Type 0
-Join_gives8 e f = meets e f ≡ false
+abbrev pub JoinGives8 : Element → Element → Type 0
+JoinGives8 e f = meets e f ≡ false
 
 -- "kink at a join", with "8 before 9"
-abbrev pub Join_gives9 : Element → Element → Type 0
-Join_gives9 e f = (meets e f ≡ true) × (continues e f ≡ false)
+abbrev pub JoinGives9 : Element → Element → Type 0
+JoinGives9 e f = (meets e f ≡ true) × (continues e f ≡ false)
 
 module _ (e f : Element) (r : ℕ) where
-  pub join_gives_8 : (verdict (join_rules e f r) ≡ Refused (refusal gap r)) ↔ Join_gives8 e f
+  pub join_gives_8 : (verdict (join_rules e f r) ≡ Refused (refusal gap r)) ↔ JoinGives8 e f
   unfolding join_rules number
   join_gives_8 = first_given (rule gap r (meets e f)) (rule kink r (continues e f) ∷ []) (other (omega arith) empty)
 
-  pub join_gives_9 : (verdict (join_rules e f r) ≡ Refused (refusal kink r)) ↔ Join_gives9 e f
+  pub join_gives_9 : (verdict (join_rules e f r) ≡ Refused (refusal kink r)) ↔ JoinGives9 e f
   unfolding join_rules number
   join_gives_9 =
       Iff.trans
@@ -137,24 +137,24 @@ module _ (e f : Element) (r : ℕ) where
 -- ---- in an order: "record by record its kind, reserved bytes, 6, 7; then joins from the first, 8 before 9"
 
 -- record k is refused with none of 4 to 7, and the join after it with neither 8 nor 9
-abbrev pub Record_passes : List ℕ → ℕ → Type 0
-Record_passes bytes k = verdict (record_rules (record_of bytes k) k) ≡ Done
+abbrev pub RecordPasses : List ℕ → ℕ → Type 0
+RecordPasses bytes k = verdict (record_rules (record_of bytes k) k) ≡ Done
 
-abbrev pub Join_passes : List ℕ → ℕ → Type 0
-Join_passes bytes k = verdict (join_rules (element_at bytes k) (element_at bytes (k + 1)) k) ≡ Done
+abbrev pub JoinPasses : List ℕ → ℕ → Type 0
+JoinPasses bytes k = verdict (join_rules (element_at bytes k) (element_at bytes (k + 1)) k) ≡ Done
 
 -- what comes before the records refuses nothing, nor do the records before r
 pub record RecordReached (before : List Rule) (bytes : List ℕ) (r : ℕ) : Type 0 where
   pub first : verdict before ≡ Done
   pub within : r < count_of bytes
-  pub earlier : (k : ℕ) → k < r → Record_passes bytes k
+  pub earlier : (k : ℕ) → k < r → RecordPasses bytes k
 
 -- nor does any record, nor the joins before that of r and r + 1
 pub record JoinReached (before : List Rule) (bytes : List ℕ) (r : ℕ) : Type 0 where
   pub first : verdict before ≡ Done
-  pub records : (k : ℕ) → k < count_of bytes → Record_passes bytes k
+  pub records : (k : ℕ) → k < count_of bytes → RecordPasses bytes k
   pub within : r + 1 < count_of bytes
-  pub earlier : (k : ℕ) → k < r → Join_passes bytes k
+  pub earlier : (k : ℕ) → k < r → JoinPasses bytes k
 
 record_lacks : (this : List ℕ) (r : ℕ) {n : ℕ} → ((m : ℕ) → 4 ≤ m → m ≤ 7 → m ≢ n) → Lacks n (record_rules this r)
 unfolding record_rules number

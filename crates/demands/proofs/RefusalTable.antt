@@ -49,7 +49,7 @@ use Rattle.run.proofs.Noting.{noted_full, noted_counted}
 use Rattle.integers.proofs.Tests.{and_fails}
 use Rattle.model.proofs.AfterCrest.{two_rules, first_given, given_after_crest, next_after_crest}
 use Rattle.demands.proofs.Places.{first_part, second_part, lacks_rule, lacks_for_each, nowhere, here, given_at_place}
-use Rattle.demands.proofs.RecordRefusals.{Record_gives4, Record_gives5, Record_gives6, Record_gives7, Join_gives8, Join_gives9, record_gives_4, record_gives_5, record_gives_6, record_gives_7, join_gives_8, join_gives_9, RecordReached, JoinReached, records_lack, given_at_record, given_at_join}
+use Rattle.demands.proofs.RecordRefusals.{RecordGives4, RecordGives5, RecordGives6, RecordGives7, JoinGives8, JoinGives9, record_gives_4, record_gives_5, record_gives_6, record_gives_7, join_gives_8, join_gives_9, RecordReached, JoinReached, records_lack, given_at_record, given_at_join}
 use Rattle.demands.proofs.Demand1.{Numbered, refused_numbered, came_as_read, ReadingEnds, no_run, run_full_lem, counts, any_reading_call, call_rules, move_code}
 
 -- ---- 1 to 3 of a file's own bytes: "1; 2 for all blocks; 3 for all"
@@ -136,34 +136,34 @@ module _ (file : List ℕ) (r : ℕ) where
   check_at_join why high gives = rw append-nil at (given_at_join (blocks_rules file) [] (record_bytes file) why r (blocks_lack file (omega arith)) empty high gives)
 
   -- "damaged kind, or a nonzero byte 1 to 3 or 28 to 31 of a used record"
-  pub check_refused_4 : (check_of (file_crest file) ≡ Refused (refusal damaged_record r)) ↔ (RecordReached (blocks_rules file) (record_bytes file) r × Record_gives4 (record_of (record_bytes file) r))
+  pub check_refused_4 : (check_of (file_crest file) ≡ Refused (refusal damaged_record r)) ↔ (RecordReached (blocks_rules file) (record_bytes file) r × RecordGives4 (record_of (record_bytes file) r))
   unfolding number
   check_refused_4 = check_at_record damaged_record (omega arith) (omega arith) (record_gives_4 (record_of (record_bytes file) r) r)
 
   -- "kind 5 to 15"
-  pub check_refused_5 : (check_of (file_crest file) ≡ Refused (refusal later_kind r)) ↔ (RecordReached (blocks_rules file) (record_bytes file) r × Record_gives5 (record_of (record_bytes file) r))
+  pub check_refused_5 : (check_of (file_crest file) ≡ Refused (refusal later_kind r)) ↔ (RecordReached (blocks_rules file) (record_bytes file) r × RecordGives5 (record_of (record_bytes file) r))
   unfolding number
   check_refused_5 = check_at_record later_kind (omega arith) (omega arith) (record_gives_5 (record_of (record_bytes file) r) r)
 
   -- "length, radius, x or y out of range"
-  pub check_refused_6 : (check_of (file_crest file) ≡ Refused (refusal field_out_of_range r)) ↔ (RecordReached (blocks_rules file) (record_bytes file) r × Record_gives6 (record_of (record_bytes file) r))
+  pub check_refused_6 : (check_of (file_crest file) ≡ Refused (refusal field_out_of_range r)) ↔ (RecordReached (blocks_rules file) (record_bytes file) r × RecordGives6 (record_of (record_bytes file) r))
   unfolding number
   check_refused_6 = check_at_record field_out_of_range (omega arith) (omega arith) (record_gives_6 (record_of (record_bytes file) r) r)
 
   -- "direction not a unit (record ..)"
-  pub check_refused_7 : (check_of (file_crest file) ≡ Refused (refusal not_unit r)) ↔ (RecordReached (blocks_rules file) (record_bytes file) r × Record_gives7 (record_of (record_bytes file) r))
+  pub check_refused_7 : (check_of (file_crest file) ≡ Refused (refusal not_unit r)) ↔ (RecordReached (blocks_rules file) (record_bytes file) r × RecordGives7 (record_of (record_bytes file) r))
   unfolding number
   check_refused_7 = check_at_record not_unit (omega arith) (omega arith) (record_gives_7 (record_of (record_bytes file) r) r)
 
   -- "gap .. at a join"
   pub check_refused_8 : (check_of (file_crest file) ≡ Refused (refusal gap r))
-      ↔ (JoinReached (blocks_rules file) (record_bytes file) r × Join_gives8 (element_at (record_bytes file) r) (element_at (record_bytes file) (r + 1)))
+      ↔ (JoinReached (blocks_rules file) (record_bytes file) r × JoinGives8 (element_at (record_bytes file) r) (element_at (record_bytes file) (r + 1)))
   unfolding number
   check_refused_8 = check_at_join gap (omega arith) (join_gives_8 _ _ r)
 
   -- "kink at a join"
   pub check_refused_9 : (check_of (file_crest file) ≡ Refused (refusal kink r))
-      ↔ (JoinReached (blocks_rules file) (record_bytes file) r × Join_gives9 (element_at (record_bytes file) r) (element_at (record_bytes file) (r + 1)))
+      ↔ (JoinReached (blocks_rules file) (record_bytes file) r × JoinGives9 (element_at (record_bytes file) r) (element_at (record_bytes file) (r + 1)))
   unfolding number
   check_refused_9 = check_at_join kink (omega arith) (join_gives_9 _ _ r)
 
@@ -314,27 +314,27 @@ module _ (records : List ℕ) (room r : ℕ) where
   unfolding writer_outcome writer_rules
   write_at_join why low high gives = given_at_join counting _ records why r (count_lacks high) (room_lacks high) low gives
 
-  pub write_refused_4 : (writer_outcome records room ≡ Refused (refusal damaged_record r)) ↔ (RecordReached counting records r × Record_gives4 (record_of records r))
+  pub write_refused_4 : (writer_outcome records room ≡ Refused (refusal damaged_record r)) ↔ (RecordReached counting records r × RecordGives4 (record_of records r))
   unfolding number
   write_refused_4 = write_at_record damaged_record (omega arith) (record_gives_4 (record_of records r) r)
 
-  pub write_refused_5 : (writer_outcome records room ≡ Refused (refusal later_kind r)) ↔ (RecordReached counting records r × Record_gives5 (record_of records r))
+  pub write_refused_5 : (writer_outcome records room ≡ Refused (refusal later_kind r)) ↔ (RecordReached counting records r × RecordGives5 (record_of records r))
   unfolding number
   write_refused_5 = write_at_record later_kind (omega arith) (record_gives_5 (record_of records r) r)
 
-  pub write_refused_6 : (writer_outcome records room ≡ Refused (refusal field_out_of_range r)) ↔ (RecordReached counting records r × Record_gives6 (record_of records r))
+  pub write_refused_6 : (writer_outcome records room ≡ Refused (refusal field_out_of_range r)) ↔ (RecordReached counting records r × RecordGives6 (record_of records r))
   unfolding number
   write_refused_6 = write_at_record field_out_of_range (omega arith) (record_gives_6 (record_of records r) r)
 
-  pub write_refused_7 : (writer_outcome records room ≡ Refused (refusal not_unit r)) ↔ (RecordReached counting records r × Record_gives7 (record_of records r))
+  pub write_refused_7 : (writer_outcome records room ≡ Refused (refusal not_unit r)) ↔ (RecordReached counting records r × RecordGives7 (record_of records r))
   unfolding number
   write_refused_7 = write_at_record not_unit (omega arith) (record_gives_7 (record_of records r) r)
 
-  pub write_refused_8 : (writer_outcome records room ≡ Refused (refusal gap r)) ↔ (JoinReached counting records r × Join_gives8 (element_at records r) (element_at records (r + 1)))
+  pub write_refused_8 : (writer_outcome records room ≡ Refused (refusal gap r)) ↔ (JoinReached counting records r × JoinGives8 (element_at records r) (element_at records (r + 1)))
   unfolding number
   write_refused_8 = write_at_join gap (omega arith) (omega arith) (join_gives_8 _ _ r)
 
-  pub write_refused_9 : (writer_outcome records room ≡ Refused (refusal kink r)) ↔ (JoinReached counting records r × Join_gives9 (element_at records r) (element_at records (r + 1)))
+  pub write_refused_9 : (writer_outcome records room ≡ Refused (refusal kink r)) ↔ (JoinReached counting records r × JoinGives9 (element_at records r) (element_at records (r + 1)))
   unfolding number
   write_refused_9 = write_at_join kink (omega arith) (omega arith) (join_gives_9 _ _ r)
 

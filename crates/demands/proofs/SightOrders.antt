@@ -82,19 +82,19 @@ module _ (rest : List Rule) where
 abbrev pub Units : Sighting → Type 0
 Units k = (is_unit k.backsight_c k.backsight_s ≡ true) × (is_unit k.angle_c k.angle_s ≡ true)
 
-abbrev pub No_unit : Sighting → Type 0
-No_unit k = (is_unit k.backsight_c k.backsight_s ≡ false) ⊎ (is_unit k.angle_c k.angle_s ≡ false)
+abbrev pub NoUnit : Sighting → Type 0
+NoUnit k = (is_unit k.backsight_c k.backsight_s ≡ false) ⊎ (is_unit k.angle_c k.angle_s ≡ false)
 
 -- the instrument stands in the frame
 abbrev pub Stands : Sighting → Type 0
 Stands k = in_frame k.x k.y ≡ true
 
 -- "a horizontal distance of 0 to 50,000,000 grains"; a statement has its number
-abbrev pub In_reach : Sighting → Type 0
-In_reach k = (pos 0 ≤ℤ k.distance) × (k.distance ≤ℤ pos 50000000)
+abbrev pub InReach : Sighting → Type 0
+InReach k = (pos 0 ≤ℤ k.distance) × (k.distance ≤ℤ pos 50000000)
 
-abbrev pub Out_of_reach : Sighting → Type 0
-Out_of_reach k = (k.distance <ℤ pos 0) ⊎ (pos 50000000 <ℤ k.distance)
+abbrev pub OutOfReach : Sighting → Type 0
+OutOfReach k = (k.distance <ℤ pos 0) ⊎ (pos 50000000 <ℤ k.distance)
 
 reach_true : (d : ℤ) → (is_sight d ≡ true) ↔ ((pos 0 ≤ℤ d) × (d ≤ℤ pos 50000000))
 unfolding is_sight
@@ -112,7 +112,7 @@ reach_false (negsuc n) = ((λ e. inl (omega order)), (λ x. refl))
 
 -- what a sighting has that none of its own rules refuses
 abbrev pub Sights : Sighting → Type 0
-Sights k = Units k × Stands k × In_reach k
+Sights k = Units k × Stands k × InReach k
 
 module _ (k : Sighting) (rest : List Rule) where
   pub sight_done : (verdict (sight_rules k ++ rest) ≡ Done) ↔ (Sights k × (verdict rest ≡ Done))
@@ -122,12 +122,12 @@ module _ (k : Sighting) (rest : List Rule) where
       Iff.trans (done_by rest _ _ _ _) ((λ x. (((x.0, x.1), x.2, r.0 x.3), x.4)), (λ x. (x.0.0.0, x.0.0.1, x.0.1, r.1 x.0.2, x.1)))
 
   -- "7 for either pair"
-  pub sight_7 : Lacks 7 rest → (place : ℕ) → (verdict (sight_rules k ++ rest) ≡ Refused (refusal not_unit place)) ↔ ((place ≡ 0) × No_unit k)
+  pub sight_7 : Lacks 7 rest → (place : ℕ) → (verdict (sight_rules k ++ rest) ≡ Refused (refusal not_unit place)) ↔ ((place ≡ 0) × NoUnit k)
   unfolding sight_rules
   sight_7 lacks place = seven_by rest lacks place _ _ _ _
 
   -- "11 for K", and what the rules after the sighting's own give
-  pub sight_11 : (verdict (sight_rules k ++ rest) ≡ Refused (refusal outside_frame 0)) ↔ (Units k × ((in_frame k.x k.y ≡ false) ⊎ (Stands k × In_reach k × (verdict rest ≡ Refused (refusal outside_frame 0)))))
+  pub sight_11 : (verdict (sight_rules k ++ rest) ≡ Refused (refusal outside_frame 0)) ↔ (Units k × ((in_frame k.x k.y ≡ false) ⊎ (Stands k × InReach k × (verdict rest ≡ Refused (refusal outside_frame 0)))))
   unfolding sight_rules
   sight_11 =
       let r = reach_true k.distance in
@@ -137,7 +137,7 @@ module _ (k : Sighting) (rest : List Rule) where
       )
 
   -- "15 for the distance"
-  pub sight_15 : Lacks 15 rest → (verdict (sight_rules k ++ rest) ≡ Refused (refusal asked_out_of_range 0)) ↔ (Units k × Stands k × Out_of_reach k)
+  pub sight_15 : Lacks 15 rest → (verdict (sight_rules k ++ rest) ≡ Refused (refusal asked_out_of_range 0)) ↔ (Units k × Stands k × OutOfReach k)
   unfolding sight_rules
   sight_15 lacks =
       let r = reach_false k.distance in

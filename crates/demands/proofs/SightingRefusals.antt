@@ -33,13 +33,13 @@ use Rattle.model.specs.Calls.{reading_call, sighting_stake_out_call}
 use Rattle.model.specs.Histories.{sighting}
 use Rattle.model.proofs.Answers.{told_exactly, told_answered, point_tells, sighting_tells, sighted_move_tells}
 use Rattle.model.proofs.Reasons.{Lacks, empty, other, lacks-++, lacks_other, lacks→not_given}
-use Rattle.walk_laws.proofs.Outcomes.{Too_far, Before_start, After_end, Answered, outside_frame_lem, crest_too_far, crest_before_start, crest_after_end}
+use Rattle.walk_laws.proofs.Outcomes.{TooFar, BeforeStart, AfterEnd, Answered, outside_frame_lem, crest_too_far, crest_before_start, crest_after_end}
 use Rattle.sightings.proofs.BackAgain.{place_of, back_forward, back_left}
 use Rattle.demands.proofs.Places.{two_parts, first_part, second_part}
 use Rattle.demands.proofs.RefusalTable.{not_own, move_call_refused_18, move_call_refused}
 use Rattle.demands.proofs.AfterNumbers.{came_as, came_refused, given_as, never_refused, point_answered}
 use Rattle.demands.proofs.ReadingRefusals.{point_reading, call_returns, call_given}
-use Rattle.demands.proofs.SightOrders.{Units, No_unit, Stands, In_reach, Out_of_reach, Sights, sight_done, sight_7, sight_11, sight_15, sight_holds, sight_lacks}
+use Rattle.demands.proofs.SightOrders.{Units, NoUnit, Stands, InReach, OutOfReach, Sights, sight_done, sight_7, sight_11, sight_15, sight_holds, sight_lacks}
 
 -- ---- on a crest of any source
 
@@ -95,7 +95,7 @@ module _ (c : Crest) (own : Gives is_own c.rules) (k : Sighting) where
       (after_lacks (λ e. not_own outside_frame h refl (sym e)) (λ e. not_own too_far h refl (sym e)) (λ e. not_own before_start h refl (sym e)) (λ e. not_own after_end h refl (sym e)))))
 
   -- 7: of a record of the crest, or of either pair, which has no place
-  pub sighting_refused_7 : (place : ℕ) → (sighted_to c k ≡ AnswerRefused (refusal not_unit place)) ↔ ((check_of c ≡ Refused (refusal not_unit place)) ⊎ ((check_of c ≡ Done) × (place ≡ 0) × No_unit k))
+  pub sighting_refused_7 : (place : ℕ) → (sighted_to c k ≡ AnswerRefused (refusal not_unit place)) ↔ ((check_of c ≡ Refused (refusal not_unit place)) ⊎ ((check_of c ≡ Done) × (place ≡ 0) × NoUnit k))
   unfolding number refusal
   sighting_refused_7 place =
       let lacks : Lacks 7 after = after_lacks (λ e. omega arith) (λ e. omega arith) (λ e. omega arith) (λ e. omega arith) in
@@ -107,7 +107,7 @@ module _ (c : Crest) (own : Gives is_own c.rules) (k : Sighting) where
 
   -- 11: of the place of the instrument, or of the point
   pub sighting_refused_11 : (sighted_to c k ≡ AnswerRefused (refusal outside_frame 0))
-      ↔ ((check_of c ≡ Done) × Units k × ((in_frame k.x k.y ≡ false) ⊎ (Stands k × In_reach k × (in_frame (sighted_of k).x (sighted_of k).y ≡ false))))
+      ↔ ((check_of c ≡ Done) × Units k × ((in_frame k.x k.y ≡ false) ⊎ (Stands k × InReach k × (in_frame (sighted_of k).x (sighted_of k).y ≡ false))))
   unfolding number is_own point_question
   sighting_refused_11 =
       let point = Iff.trans (Iff.symm (told_exactly (point_tells p es) [] (refusal outside_frame 0))) (outside_frame_lem es p) in
@@ -118,7 +118,7 @@ module _ (c : Crest) (own : Gives is_own c.rules) (k : Sighting) where
       )
 
   -- 15: of the distance
-  pub sighting_refused_15 : (sighted_to c k ≡ AnswerRefused (refusal asked_out_of_range 0)) ↔ ((check_of c ≡ Done) × Units k × Stands k × Out_of_reach k)
+  pub sighting_refused_15 : (sighted_to c k ≡ AnswerRefused (refusal asked_out_of_range 0)) ↔ ((check_of c ≡ Done) × Units k × Stands k × OutOfReach k)
   unfolding number is_own
   sighting_refused_15 =
       let out = sight_15 k after (after_lacks (λ e. omega arith) (λ e. omega arith) (λ e. omega arith) (λ e. omega arith)) in
@@ -130,15 +130,15 @@ module _ (c : Crest) (own : Gives is_own c.rules) (k : Sighting) where
   unfolding sighting_question
   judged_so why h lacks given = given_as c (sight_rules k) own from_located _ (point_tells p es) (sighting_tells k es) why h lacks (sight_holds k) given
 
-  pub sighting_refused_12 : (sighted_to c k ≡ AnswerRefused (refusal too_far 0)) ↔ ((check_of c ≡ Done) × Sights k × Too_far c.elements (sighted_of k))
+  pub sighting_refused_12 : (sighted_to c k ≡ AnswerRefused (refusal too_far 0)) ↔ ((check_of c ≡ Done) × Sights k × TooFar c.elements (sighted_of k))
   unfolding number is_own
   sighting_refused_12 = judged_so too_far refl (sight_lacks k (λ e. omega arith) (λ e. omega arith) (λ e. omega arith)) (crest_too_far c own (sighted_of k))
 
-  pub sighting_refused_13 : (sighted_to c k ≡ AnswerRefused (refusal before_start 0)) ↔ ((check_of c ≡ Done) × Sights k × Before_start c.elements (sighted_of k))
+  pub sighting_refused_13 : (sighted_to c k ≡ AnswerRefused (refusal before_start 0)) ↔ ((check_of c ≡ Done) × Sights k × BeforeStart c.elements (sighted_of k))
   unfolding number is_own
   sighting_refused_13 = judged_so before_start refl (sight_lacks k (λ e. omega arith) (λ e. omega arith) (λ e. omega arith)) (crest_before_start c own (sighted_of k))
 
-  pub sighting_refused_14 : (sighted_to c k ≡ AnswerRefused (refusal after_end 0)) ↔ ((check_of c ≡ Done) × Sights k × After_end c.elements (sighted_of k))
+  pub sighting_refused_14 : (sighted_to c k ≡ AnswerRefused (refusal after_end 0)) ↔ ((check_of c ≡ Done) × Sights k × AfterEnd c.elements (sighted_of k))
   unfolding number is_own
   sighting_refused_14 = judged_so after_end refl (sight_lacks k (λ e. omega arith) (λ e. omega arith) (λ e. omega arith)) (crest_after_end c own (sighted_of k))
 
@@ -153,30 +153,30 @@ module _ (c : Crest) (own : Gives is_own c.rules) (k : Sighting) where
 
 module _ (c : Crest) (sound : SoundCrest c) (k : Sighting) (run : List ℕ) where
   pub sighting_call_refused_7 : (place : ℕ) → ((reading_call (sighted_to c k) run).0 ≡ 7 + 256 * place)
-      ↔ ((length run ≡ 24) × (is_full (run_at run) ≡ false) × ((check_of c ≡ Refused (refusal not_unit place)) ⊎ ((check_of c ≡ Done) × (place ≡ 0) × No_unit k)))
+      ↔ ((length run ≡ 24) × (is_full (run_at run) ≡ false) × ((check_of c ≡ Refused (refusal not_unit place)) ⊎ ((check_of c ≡ Done) × (place ≡ 0) × NoUnit k)))
   unfolding number
   sighting_call_refused_7 place =
       let pairs = sighting_refused_7 c sound.own k place in
       Iff.trans (call_returns (sighting c sound k) run not_unit place (λ e. omega arith) (λ e. omega arith)) ((λ x. (x.0, x.1, pairs.0 x.2)), (λ x. (x.0, x.1, pairs.1 x.2)))
 
   pub sighting_call_refused_11 : ((reading_call (sighted_to c k) run).0 ≡ 11) ↔ ((length run ≡ 24) × (is_full (run_at run) ≡ false)
-      × ((check_of c ≡ Done) × Units k × ((in_frame k.x k.y ≡ false) ⊎ (Stands k × In_reach k × (in_frame (sighted_of k).x (sighted_of k).y ≡ false)))))
+      × ((check_of c ≡ Done) × Units k × ((in_frame k.x k.y ≡ false) ⊎ (Stands k × InReach k × (in_frame (sighted_of k).x (sighted_of k).y ≡ false)))))
   unfolding number
   sighting_call_refused_11 = call_given (sighting c sound k) run outside_frame (λ e. omega arith) (λ e. omega arith) (sighting_refused_11 c sound.own k)
 
-  pub sighting_call_refused_12 : ((reading_call (sighted_to c k) run).0 ≡ 12) ↔ ((length run ≡ 24) × (is_full (run_at run) ≡ false) × ((check_of c ≡ Done) × Sights k × Too_far c.elements (sighted_of k)))
+  pub sighting_call_refused_12 : ((reading_call (sighted_to c k) run).0 ≡ 12) ↔ ((length run ≡ 24) × (is_full (run_at run) ≡ false) × ((check_of c ≡ Done) × Sights k × TooFar c.elements (sighted_of k)))
   unfolding number
   sighting_call_refused_12 = call_given (sighting c sound k) run too_far (λ e. omega arith) (λ e. omega arith) (sighting_refused_12 c sound.own k)
 
-  pub sighting_call_refused_13 : ((reading_call (sighted_to c k) run).0 ≡ 13) ↔ ((length run ≡ 24) × (is_full (run_at run) ≡ false) × ((check_of c ≡ Done) × Sights k × Before_start c.elements (sighted_of k)))
+  pub sighting_call_refused_13 : ((reading_call (sighted_to c k) run).0 ≡ 13) ↔ ((length run ≡ 24) × (is_full (run_at run) ≡ false) × ((check_of c ≡ Done) × Sights k × BeforeStart c.elements (sighted_of k)))
   unfolding number
   sighting_call_refused_13 = call_given (sighting c sound k) run before_start (λ e. omega arith) (λ e. omega arith) (sighting_refused_13 c sound.own k)
 
-  pub sighting_call_refused_14 : ((reading_call (sighted_to c k) run).0 ≡ 14) ↔ ((length run ≡ 24) × (is_full (run_at run) ≡ false) × ((check_of c ≡ Done) × Sights k × After_end c.elements (sighted_of k)))
+  pub sighting_call_refused_14 : ((reading_call (sighted_to c k) run).0 ≡ 14) ↔ ((length run ≡ 24) × (is_full (run_at run) ≡ false) × ((check_of c ≡ Done) × Sights k × AfterEnd c.elements (sighted_of k)))
   unfolding number
   sighting_call_refused_14 = call_given (sighting c sound k) run after_end (λ e. omega arith) (λ e. omega arith) (sighting_refused_14 c sound.own k)
 
-  pub sighting_call_refused_15 : ((reading_call (sighted_to c k) run).0 ≡ 15) ↔ ((length run ≡ 24) × (is_full (run_at run) ≡ false) × ((check_of c ≡ Done) × Units k × Stands k × Out_of_reach k))
+  pub sighting_call_refused_15 : ((reading_call (sighted_to c k) run).0 ≡ 15) ↔ ((length run ≡ 24) × (is_full (run_at run) ≡ false) × ((check_of c ≡ Done) × Units k × Stands k × OutOfReach k))
   unfolding number
   sighting_call_refused_15 = call_given (sighting c sound k) run asked_out_of_range (λ e. omega arith) (λ e. omega arith) (sighting_refused_15 c sound.own k)
 
@@ -242,14 +242,14 @@ module _ (k : Sighting) (target : Point) where
   unfolding number
   ends_lack h = other (λ e. h (sym e)) (other (λ e. h (sym e)) empty)
 
-  pub sighted_move_refused_7 : (sighted_move k target ≡ MoveRefused (refusal not_unit 0)) ↔ No_unit k
+  pub sighted_move_refused_7 : (sighted_move k target ≡ MoveRefused (refusal not_unit 0)) ↔ NoUnit k
   sighted_move_refused_7 =
       let pairs = sight_7 k ends (ends_lack (λ e. omega arith)) 0 in
       Iff.trans (move_order (refusal not_unit 0)) ((λ e. (pairs.0 e).1), (λ x. pairs.1 (refl, x)))
 
   -- of the place of the instrument, of the point, and of the target
   pub sighted_move_refused_11 : (sighted_move k target ≡ MoveRefused (refusal outside_frame 0))
-      ↔ (Units k × ((in_frame k.x k.y ≡ false) ⊎ (Stands k × In_reach k
+      ↔ (Units k × ((in_frame k.x k.y ≡ false) ⊎ (Stands k × InReach k
       × ((in_frame (sighted_of k).x (sighted_of k).y ≡ false) ⊎ ((in_frame (sighted_of k).x (sighted_of k).y ≡ true) × (in_frame target.x target.y ≡ false))))))
   sighted_move_refused_11 =
       let both = ends_by (in_frame (sighted_of k).x (sighted_of k).y) (in_frame target.x target.y) in
@@ -259,7 +259,7 @@ module _ (k : Sighting) (target : Point) where
         (λ x. first.1 (x.0, ⊎_map (λ f. f) (λ z. (z.0, z.1, both.1 z.2)) x.1)),
       )
 
-  pub sighted_move_refused_15 : (sighted_move k target ≡ MoveRefused (refusal asked_out_of_range 0)) ↔ (Units k × Stands k × Out_of_reach k)
+  pub sighted_move_refused_15 : (sighted_move k target ≡ MoveRefused (refusal asked_out_of_range 0)) ↔ (Units k × Stands k × OutOfReach k)
   sighted_move_refused_15 = Iff.trans (move_order (refusal asked_out_of_range 0)) (sight_15 k ends (ends_lack (λ e. omega arith)))
 
   -- no other number is given
@@ -291,16 +291,16 @@ module _ (k : Sighting) (target : Point) (room : List ℕ) where
   sighting_stake_out_call_refused_18 =
       move_call_refused_18 (sighted_move_tells k target) room (lacks-++ (sight_lacks k (λ e. omega arith) (λ e. omega arith) (λ e. omega arith)) (ends_lack k target (λ e. omega arith)))
 
-  pub sighting_stake_out_call_refused_7 : ((sighting_stake_out_call k target room).0 ≡ 7) ↔ ((length room ≡ 8) × No_unit k)
+  pub sighting_stake_out_call_refused_7 : ((sighting_stake_out_call k target room).0 ≡ 7) ↔ ((length room ≡ 8) × NoUnit k)
   unfolding sighting_stake_out_call number
   sighting_stake_out_call_refused_7 = Iff.trans (move_call_refused (sighted_move_tells k target) room not_unit (omega arith)) (Iff.and Iff.rfl (sighted_move_refused_7 k target))
 
-  pub sighting_stake_out_call_refused_11 : ((sighting_stake_out_call k target room).0 ≡ 11) ↔ ((length room ≡ 8) × (Units k × ((in_frame k.x k.y ≡ false) ⊎ (Stands k × In_reach k
+  pub sighting_stake_out_call_refused_11 : ((sighting_stake_out_call k target room).0 ≡ 11) ↔ ((length room ≡ 8) × (Units k × ((in_frame k.x k.y ≡ false) ⊎ (Stands k × InReach k
       × ((in_frame (sighted_of k).x (sighted_of k).y ≡ false) ⊎ ((in_frame (sighted_of k).x (sighted_of k).y ≡ true) × (in_frame target.x target.y ≡ false)))))))
   unfolding sighting_stake_out_call number
   sighting_stake_out_call_refused_11 = Iff.trans (move_call_refused (sighted_move_tells k target) room outside_frame (omega arith)) (Iff.and Iff.rfl (sighted_move_refused_11 k target))
 
-  pub sighting_stake_out_call_refused_15 : ((sighting_stake_out_call k target room).0 ≡ 15) ↔ ((length room ≡ 8) × (Units k × Stands k × Out_of_reach k))
+  pub sighting_stake_out_call_refused_15 : ((sighting_stake_out_call k target room).0 ≡ 15) ↔ ((length room ≡ 8) × (Units k × Stands k × OutOfReach k))
   unfolding sighting_stake_out_call number
   sighting_stake_out_call_refused_15 = Iff.trans (move_call_refused (sighted_move_tells k target) room asked_out_of_range (omega arith)) (Iff.and Iff.rfl (sighted_move_refused_15 k target))
 

@@ -11,7 +11,7 @@ use Rattle.model.specs.Records.{record_bytes, count_of}
 use Rattle.model.specs.Crest.{check_of, file_crest}
 use Rattle.model.specs.Refusals.{verdict}
 use Rattle.model.specs.Writer.{blocks_needed, file_of, count_fits}
-use Rattle.model.proofs.Verdict.{All_hold, more, done→all}
+use Rattle.model.proofs.Verdict.{AllHold, more, done→all}
 use Rattle.crestfile.proofs.WriterRules.{rules_but_room}
 use Rattle.crestfile.proofs.Blocks.{file_length, records_row}
 use Rattle.crestfile.proofs.SoundFile.{SoundFile, sound_file_records, sound_file→accepted, count_fits_lem, sound_file_count}
@@ -32,7 +32,7 @@ file_crest_lem records h =
 pub written_then_read : (records : List ℕ) → verdict (rules_but_room records) ≡ Done → (check_of (file_crest (file_of records)) ≡ Done) × (record_bytes (file_of records) ≡ records) × (length (file_of records) ≡ 512 * blocks_needed records)
 written_then_read records e = go (done→all (rules_but_room records) e)
   where
-    go : All_hold (rules_but_room records) → (check_of (file_crest (file_of records)) ≡ Done) × (record_bytes (file_of records) ≡ records) × (length (file_of records) ≡ 512 * blocks_needed records)
+    go : AllHold (rules_but_room records) → (check_of (file_crest (file_of records)) ≡ Done) × (record_bytes (file_of records) ≡ records) × (length (file_of records) ≡ 512 * blocks_needed records)
     go (more h a) =
         let c = file_crest_lem records h in
         (sound_file→accepted c a, sound_file_records c, rw (sound_file_count c).1 (file_length c.row))

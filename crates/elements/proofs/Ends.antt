@@ -16,7 +16,7 @@ use Rattle.model.specs.Series.{Series, arc_series, spiral_series, cosine_factor,
 use Rattle.model.specs.Accepted.{Accepted}
 use Rattle.model.proofs.Rounding.{near_multiple}
 use Rattle.rounding.proofs.Sizes.{near_0}
-use Rattle.model.proofs.Accepted.{Radius_fits, numbers}
+use Rattle.model.proofs.Accepted.{RadiusFits, numbers}
 
 -- ---- the angle
 
@@ -32,8 +32,8 @@ no_angle h = near_0 h
 signed_no_angle : (r : ℤ) {q : ℕ} → 1 ≤ q → angle_of (fraction (signed_by r 0) q) ≡ pos 0
 signed_no_angle r {q} h = ap (λ n. angle_of (fraction n q)) (signed_0 r) ∙ no_angle h
 
-no_turn : (k : Shape) (r : ℤ) (whole : ℕ) → 1 ≤ whole → Radius_fits k whole (nat_abs r) → angle_of (turn_of k r whole 0) ≡ pos 0
-unfolding turn_of Radius_fits
+no_turn : (k : Shape) (r : ℤ) (whole : ℕ) → 1 ≤ whole → RadiusFits k whole (nat_abs r) → angle_of (turn_of k r whole 0) ≡ pos 0
+unfolding turn_of RadiusFits
 no_turn Straight r whole h f = no_angle (omega arith)
 no_turn Circular r whole h f = signed_no_angle r (omega (arith, f.0))
 no_turn Clothoid r whole h f = signed_no_angle r (mul-pos {m = 2 * nat_abs r} {n = whole} (omega (arith, f.0)) h)

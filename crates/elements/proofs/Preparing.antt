@@ -14,7 +14,7 @@ use Rattle.model.specs.Acceptance.{longest_element, widest}
 use Rattle.model.specs.Rounding.{ONE, near}
 use Rattle.model.specs.Series.{whole_length, signed_by, turn_of, angle_of}
 use Rattle.model.specs.Accepted.{Accepted}
-use Rattle.model.proofs.Accepted.{Radius_fits, numbers}
+use Rattle.model.proofs.Accepted.{RadiusFits, numbers}
 use Rattle.rounding.specs.Rounded.{lowered}
 use Rattle.rounding.proofs.Quotients.{lowered-≤, near_even, near_halves}
 use Rattle.elements.specs.declared.Prepared.{Prepared}
@@ -35,15 +35,15 @@ prepared_element e q = ap (λ (p : Prepared). p.element) q
 
 -- ---- what a shape says
 
-pub radius_within : (k : Shape) (whole : ℕ) {radius : ℕ} → Radius_fits k whole radius → radius ≤ widest
-unfolding Radius_fits
+pub radius_within : (k : Shape) (whole : ℕ) {radius : ℕ} → RadiusFits k whole radius → radius ≤ widest
+unfolding RadiusFits
 radius_within Straight whole r = omega arith
 radius_within Circular whole r = r.1
 radius_within Clothoid whole r = r.1
 
 -- what is taken off is taken from half the divisor
-pub off_fits : (k : Shape) {off whole radius : ℕ} → Radius_fits k whole radius → off ≤ radius → 1 ≤ whole → off ≤ divisor_of k radius whole / 2
-unfolding Radius_fits divisor_of
+pub off_fits : (k : Shape) {off whole radius : ℕ} → RadiusFits k whole radius → off ≤ radius → 1 ≤ whole → off ≤ divisor_of k radius whole / 2
+unfolding RadiusFits divisor_of
 off_fits Straight r s h = omega arith
 off_fits Circular r s h = omega arith
 off_fits Clothoid {whole = l} {radius} r s h = omega (arith, mul_assoc 2 radius l, mul-le-mul {n₁ = radius} {m₁ = 1} {n₂ = radius} {m₂ = l} (omega arith) h)
@@ -88,8 +88,8 @@ module _ {p : Prepared} (y : Ready p) where
     unfolding prepared_of
     divisor_is = ap (λ (x : Prepared). x.divisor) y.prepared ∙ ap (λ x. divisor_of x radius whole) h
 
-    radius_on : Radius_fits k whole radius
-    radius_on = subst (λ x. Radius_fits x whole radius) h (numbers y.accepted).radius
+    radius_on : RadiusFits k whole radius
+    radius_on = subst (λ x. RadiusFits x whole radius) h (numbers y.accepted).radius
 
   -- ---- the angle of an arc
 
@@ -99,7 +99,7 @@ module _ {p : Prepared} (y : Ready p) where
     arc_divisor = divisor_is Circular h
 
     arc_radius : (2 * whole ≤ radius) × (radius ≤ widest)
-    unfolding Radius_fits
+    unfolding RadiusFits
     arc_radius = radius_on Circular h
 
     arc_half : p.half ≡ radius - p.off
@@ -119,7 +119,7 @@ module _ {p : Prepared} (y : Ready p) where
 
   module _ (h : shape_of e.kind ≡ Clothoid) (l : ℕ) where
     spiral_radius : (whole ≤ radius) × (radius ≤ widest)
-    unfolding Radius_fits
+    unfolding RadiusFits
     spiral_radius = radius_on Clothoid h
 
     spiral_product : radius * whole ≤ widest * longest_element

@@ -18,7 +18,7 @@ use Rattle.model.specs.Kinds.{shape_of, anchored_far}
 use Rattle.model.specs.Series.{from_anchor, whole_length, signed_by, turn_of, length_at, turn_at}
 use Rattle.model.specs.Bound.{exact_along, exact_aside, exact_along_at, exact_aside_at}
 use Rattle.model.specs.Accepted.{Accepted}
-use Rattle.model.proofs.Accepted.{Radius_fits, numbers}
+use Rattle.model.proofs.Accepted.{RadiusFits, numbers}
 use Rattle.elements.proofs.Angle.{length_at_whole}
 use Rattle.elements.proofs.Moves.{twice, Turning, Moved, along_moves, aside_moves}
 
@@ -114,8 +114,8 @@ module _ (r : ℤ) (l z₁ z₂ j : ℕ) (h : 1 ≤ l) (h₁ : z₁ ≤ l) (h₂
   hundredfold : nat_abs (pos (100 * z₁) -ℤ pos (100 * z₂)) ≤ 122 * j * 1
   hundredfold = let d = pos z₁ -ℤ pos z₂ in omega (order, difference (pos z₁) (pos z₂), parts d, difference (pos (100 * z₁)) (pos (100 * z₂)), parts (pos (100 * z₁) -ℤ pos (100 * z₂)))
 
-  both_move : (k : Shape) → Radius_fits k l (nat_abs r) → BothMoved k r l z₁ z₂ j
-  unfolding exact_along exact_aside turn_of Radius_fits
+  both_move : (k : Shape) → RadiusFits k l (nat_abs r) → BothMoved k r l z₁ z₂ j
+  unfolding exact_along exact_aside turn_of RadiusFits
   both_move Straight f =
       record {
         along = record { same = refl; above = omega arith; moved = hundredfold };

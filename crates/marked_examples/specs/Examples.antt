@@ -8,7 +8,7 @@ use Rattle.model.specs.Acceptance.{crest_rules, crest_elements}
 use Rattle.model.specs.Crest.{file_crest}
 use Rattle.model.specs.Writer.{file_of}
 use Rattle.model.specs.Walk.{visits}
-use Rattle.model.specs.Answers.{Paper_answer, answered_with, refused_with, answer_after, station_question, placed, paper_of_placed, point_question, located, paper_of_located, place_question, inverse, paper_of_inverse, move_question, stake_out, paper_of_move}
+use Rattle.model.specs.Answers.{PaperAnswer, answered_with, refused_with, answer_after, station_question, placed, paper_of_placed, point_question, located, paper_of_located, place_question, inverse, paper_of_inverse, move_question, stake_out, paper_of_move}
 
 abbrev pub point : ℤ → ℤ → Point
 point x y = record { x = x; y = y }
@@ -30,19 +30,19 @@ unfolding crest
 K = crest 1 10000 (pos 0)
 
 -- A question to a crest file, but the last, which has none.
-pub data Example_question : Type 0 where
+pub data ExampleQuestion : Type 0 where
   -- station, offset and residual of a point
-  locate : List ℕ → Point → Example_question
+  locate : List ℕ → Point → ExampleQuestion
   -- whether a point is answered: its number alone
-  accept : List ℕ → Point → Example_question
+  accept : List ℕ → Point → ExampleQuestion
   -- the stations that the walk visits, and the count that the answer carries
-  walk : List ℕ → Point → Example_question
+  walk : List ℕ → Point → ExampleQuestion
   -- the point at a station and an offset
-  invert : List ℕ → ℤ → ℤ → Example_question
+  invert : List ℕ → ℤ → ℤ → ExampleQuestion
   -- the position at a station
-  place : List ℕ → ℤ → Example_question
+  place : List ℕ → ℤ → ExampleQuestion
   -- the move from an own point to a target, by a heading
-  stake : Point → Point → ℤ → ℤ → Example_question
+  stake : Point → Point → ℤ → ℤ → ExampleQuestion
 
 abbrev pub first_two : List ℤ → List ℤ
 first_two [] = []
@@ -61,10 +61,10 @@ after_three (a ∷ []) = []
 after_three (a ∷ b ∷ []) = []
 after_three (a ∷ b ∷ c ∷ more) = more
 
-abbrev pub values_by : (List ℤ → List ℤ) → Paper_answer → Paper_answer
+abbrev pub values_by : (List ℤ → List ℤ) → PaperAnswer → PaperAnswer
 values_by f p = record { number = p.number; place = p.place; values = f p.values }
 
-unfoldable pub answer_for : Example_question → Paper_answer
+unfoldable pub answer_for : ExampleQuestion → PaperAnswer
 unfolding answer_after paper_of_located point_question paper_of_inverse place_question paper_of_placed station_question paper_of_move move_question visits crest_rules crest_elements
 answer_for (locate file p) = values_by first_three (paper_of_located (located (file_crest file) p))
 answer_for (accept file p) = values_by (λ v. []) (paper_of_located (located (file_crest file) p))
@@ -73,15 +73,15 @@ answer_for (invert file s w) = paper_of_inverse (inverse (file_crest file) s w)
 answer_for (place file s) = values_by first_two (paper_of_placed (placed (file_crest file) s))
 answer_for (stake own target c s) = paper_of_move (stake_out own target c s)
 
-abbrev pub refused_by : Reason → ℕ → Paper_answer
+abbrev pub refused_by : Reason → ℕ → PaperAnswer
 refused_by why zeros = refused_with (refusal why 0) zeros
 
 pub record Example : Type 0 where
-  pub question : Example_question
-  pub expected : Paper_answer
+  pub question : ExampleQuestion
+  pub expected : PaperAnswer
 
 infix 30 ◌gives◌
-abbrev pub ◌gives◌ : Example_question → Paper_answer → Example
+abbrev pub ◌gives◌ : ExampleQuestion → PaperAnswer → Example
 q gives e = record { question = q; expected = e }
 
 unfoldable pub examples : List Example
@@ -111,8 +111,8 @@ examples =
     ∷ (walk (crest 1 3 (pos 0)) (point (pos 0) (pos 0)) gives answered_with (pos 0 ∷ pos 3 ∷ pos 0 ∷ pos 1 ∷ pos 2 ∷ pos 5 ∷ []))
     ∷ []
 
-abbrev pub actual : Example → Paper_answer
+abbrev pub actual : Example → PaperAnswer
 actual e = answer_for e.question
 
-abbrev pub due : Example → Paper_answer
+abbrev pub due : Example → PaperAnswer
 due e = e.expected

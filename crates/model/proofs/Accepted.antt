@@ -16,18 +16,18 @@ use Rattle.model.specs.Acceptance.{longest_element, widest, frame, unit_slack, l
 use Rattle.model.specs.Accepted.{Accepted}
 use Rattle.model.specs.declared.Outcome.TheVariants.{Done}
 use Rattle.model.specs.Refusals.{verdict}
-use Rattle.model.proofs.Verdict.{All_hold, none, more, done→all}
+use Rattle.model.proofs.Verdict.{AllHold, none, more, done→all}
 
-unfoldable pub Radius_fits : Shape → ℕ → ℕ → Type 0
-Radius_fits Straight l r = r ≡ 0
-Radius_fits Circular l r = (2 * l ≤ r) × (r ≤ widest)
-Radius_fits Clothoid l r = (l ≤ r) × (r ≤ widest)
+unfoldable pub RadiusFits : Shape → ℕ → ℕ → Type 0
+RadiusFits Straight l r = r ≡ 0
+RadiusFits Circular l r = (2 * l ≤ r) × (r ≤ widest)
+RadiusFits Clothoid l r = (l ≤ r) × (r ≤ widest)
 
 pub record Numbers (e : Element) : Type 0 where
   pub shortest : 1 ≤ e.length
   pub longest : whole_length e ≤ longest_element
   pub whole : 1 ≤ whole_length e
-  pub radius : Radius_fits (shape_of e.kind) (whole_length e) (nat_abs e.radius)
+  pub radius : RadiusFits (shape_of e.kind) (whole_length e) (nat_abs e.radius)
   pub anchor_x : nat_abs e.x ≤ frame
   pub anchor_y : nat_abs e.y ≤ frame
   pub unit : nat_abs (e.c *ℤ e.c +ℤ e.s *ℤ e.s -ℤ pos (2 ^ 60)) ≤ unit_slack
@@ -35,8 +35,8 @@ pub record Numbers (e : Element) : Type 0 where
 between : (a b c d : ℕ) → T (leb a b && leb c d) → (a ≤ b) × (c ≤ d)
 between a b c d t = let g = and_yes (leb a b) (leb c d) t in (leb→le a b g.0, leb→le c d g.1)
 
-radius_fits : (k : Shape) (l r : ℕ) → T (radius_good k l r) → Radius_fits k l r
-unfolding radius_good Radius_fits
+radius_fits : (k : Shape) (l r : ℕ) → T (radius_good k l r) → RadiusFits k l r
+unfolding radius_good RadiusFits
 radius_fits Straight l r t = eqb→eq r 0 t
 radius_fits Circular l r t = between (2 * l) r r widest t
 radius_fits Clothoid l r t = between l r r widest t
@@ -60,7 +60,7 @@ numbers {e} a =
 
 -- ---- a record that its rules accept
 
-record_accepted' : (this : List ℕ) (r : ℕ) → All_hold (record_rules this r) → Accepted (element_of this)
+record_accepted' : (this : List ℕ) (r : ℕ) → AllHold (record_rules this r) → Accepted (element_of this)
 unfolding record_rules
 record_accepted' this r (more a (more b (more c (more d (more e none))))) = record { ranges = d; unit = e }
 

@@ -12,8 +12,8 @@ use Rattle.model.specs.declared.Refusal.{Refusal}
 use Rattle.model.specs.declared.Outcome.TheVariants.{Done, Refused}
 use Rattle.model.specs.Refusals.{Reason, Rule, number, refusal, rule, Gives, or_refused, verdict}
 use Rattle.model.specs.Crest.{Crest, check_of, is_own}
-use Rattle.model.specs.Answers.{Paper_answer, Question, answer_of, asked}
-use Rattle.model.proofs.Verdict.{All_hold, none, done→all, all→done, verdict_after}
+use Rattle.model.specs.Answers.{PaperAnswer, Question, answer_of, asked}
+use Rattle.model.proofs.Verdict.{AllHold, none, done→all, all→done, verdict_after}
 use Rattle.model.proofs.ForEach.{all_append, append_all}
 use Rattle.model.proofs.Reasons.{Lacks, empty, lacks-++, lacks_other, given_exactly}
 use Rattle.model.proofs.RuleNumbers.{given}
@@ -40,7 +40,7 @@ module _ (r : Rule) (after : List Rule) (l : Lacks (number r.why) after) where
 
   -- after two parts of an order
   given_after : (own before : List Rule) → Lacks (number r.why) own → Lacks (number r.why) before →
-      (verdict (own ++ (before ++ (r ∷ after))) ≡ Refused (refusal r.why r.place)) ↔ ((verdict own ≡ Done) × All_hold before × (r.holds ≡ false))
+      (verdict (own ++ (before ++ (r ∷ after))) ≡ Refused (refusal r.why r.place)) ↔ ((verdict own ≡ Done) × AllHold before × (r.holds ≡ false))
   given_after own before j k =
       Iff.trans
       (rw (append_assoc own before (r ∷ after)) at (given_exactly r after l (own ++ before) (lacks-++ j k))) (
@@ -51,7 +51,7 @@ module _ (r : Rule) (after : List Rule) (l : Lacks (number r.why) after) where
   module _ (c : Crest) (own : Gives is_own c.rules) (later : is_own (number r.why) ≡ false) where
     -- after the crest's own rules, and others
     pub given_after_crest : (before : List Rule) → Lacks (number r.why) before →
-        (verdict (c.rules ++ (before ++ (r ∷ after))) ≡ Refused (refusal r.why r.place)) ↔ ((check_of c ≡ Done) × All_hold before × (r.holds ≡ false))
+        (verdict (c.rules ++ (before ++ (r ∷ after))) ≡ Refused (refusal r.why r.place)) ↔ ((check_of c ≡ Done) × AllHold before × (r.holds ≡ false))
     given_after_crest before k = given_after c.rules before (lacks_other own later) k
 
     -- next after them
@@ -61,6 +61,6 @@ module _ (r : Rule) (after : List Rule) (l : Lacks (number r.why) after) where
 -- ---- a question to a crest
 
 -- an answer, and a refusal with a number that is no crest's own, is given exactly when the crest is accepted and its elements give it
-pub asked_exactly : {A : Type 0} {refused : Refusal → A} {paper_of : A → Paper_answer} (question : List Element → Question A) (c : Crest) → Tells refused paper_of (question c.elements) → Gives is_own c.rules →
+pub asked_exactly : {A : Type 0} {refused : Refusal → A} {paper_of : A → PaperAnswer} (question : List Element → Question A) (c : Crest) → Tells refused paper_of (question c.elements) → Gives is_own c.rules →
     (a : A) → ((w : Refusal) → a ≡ refused w → is_own w.number ≡ false) → (asked question c ≡ a) ↔ ((check_of c ≡ Done) × (answer_of (question c.elements) ≡ a))
 asked_exactly question c tells own a later = told_later tells c.rules (λ w k e. clash (cc (given w own k, later w e)))

@@ -28,7 +28,7 @@ use Rattle.model.specs.declared.Run.{Run}
 use Rattle.model.specs.declared.Noted.{Noted}
 use Rattle.model.specs.Refusals.{Rule, verdict}
 use Rattle.model.specs.Crest.{Crest}
-use Rattle.model.specs.Answers.{Paper_answer, answered_with, refused_with, paper_if, paper_of_outcome, Question, answer_if, answer_after, answer_of, paper_after, asked_paper, station_rules, station_question, paper_of_placed, point_rules, point_question, located_on, paper_of_located, line_rules, place_question, paper_of_inverse, move_rules, move_question, paper_of_move}
+use Rattle.model.specs.Answers.{PaperAnswer, answered_with, refused_with, paper_if, paper_of_outcome, Question, answer_if, answer_after, answer_of, paper_after, asked_paper, station_rules, station_question, paper_of_placed, point_rules, point_question, located_on, paper_of_located, line_rules, place_question, paper_of_inverse, move_rules, move_question, paper_of_move}
 use Rattle.model.specs.Readings.{whole_of, value_of, number_rules, from_located, from_inverse, put_after, reading_question, value_count, paper_of_reading}
 use Rattle.model.specs.Sightings.{sight_rules, sighted_of, sight_question, sighting_question, sighted_on, observed_question, observed_to, observed_count, sighted_move_rules, sighted_move_question}
 use Rattle.model.specs.Run.{full_rules, noted_if, noted, noted_paper_if, noted_paper}
@@ -63,7 +63,7 @@ pub data Bare : List Rule → Type 0 where
 
 -- A question that gives its refusals as `refused` does, without a place: an answer's values are the paper's, a refusal has as many zeros, and no answer is taken for a refusal,
 -- nor one refusal for another.
-pub record Tells {A : Type 0} (refused : Refusal → A) (paper_of : A → Paper_answer) (q : Question A) : Type 0 where
+pub record Tells {A : Type 0} (refused : Refusal → A) (paper_of : A → PaperAnswer) (q : Question A) : Type 0 where
   pub refuses : (why : Refusal) → q.refused why ≡ refused why
   pub values : paper_of q.answer ≡ answered_with q.values
   pub zeros : (why : Refusal) → paper_of (refused why) ≡ refused_with why (length q.values)
@@ -71,7 +71,7 @@ pub record Tells {A : Type 0} (refused : Refusal → A) (paper_of : A → Paper_
   pub one : {v w : Refusal} → refused v ≡ refused w → v ≡ w
   pub bare : Bare q.order
 
-module _ {A : Type 0} {refused : Refusal → A} {paper_of : A → Paper_answer} {q : Question A} (tells : Tells refused paper_of q) where
+module _ {A : Type 0} {refused : Refusal → A} {paper_of : A → PaperAnswer} {q : Question A} (tells : Tells refused paper_of q) where
   pub told_refused : (before : List Rule) {why : Refusal} → verdict before ≡ Refused why → answer_after before q ≡ refused why
   told_refused before {why} e = rules_refuse q before e ∙ tells.refuses why
 
@@ -208,7 +208,7 @@ sighting_located es k e = sighting_asked [] k es ∙ ap from_located (rules_hold
 
 -- ---- a reading or a sighting on a run: 16 has as many zeros as the question has values
 
-noted_by : (o : Outcome) (n : ℕ) (p : Paper_answer) (a : ReadingAnswer) (run : Run) → paper_of_reading n a ≡ p → length p.values ≡ n → paper_of_reading n (noted_if o a run).answer ≡ noted_paper_if o p
+noted_by : (o : Outcome) (n : ℕ) (p : PaperAnswer) (a : ReadingAnswer) (run : Run) → paper_of_reading n a ≡ p → length p.values ≡ n → paper_of_reading n (noted_if o a run).answer ≡ noted_paper_if o p
 unfolding paper_of_reading noted_if noted_paper_if
 noted_by Done n p a run e l = e
 noted_by (Refused r) n p a run e l = ap (refused_with r) (sym l)

@@ -8,14 +8,14 @@ use Rattle.integers.proofs.Order.{clash}
 use Rattle.model.specs.declared.Refusal.{Refusal}
 use Rattle.model.specs.declared.Outcome.TheVariants.{Refused}
 use Rattle.model.specs.Refusals.{Rule, number, refusal, Gives, none, more, or_refused, verdict}
-use Rattle.model.proofs.Verdict.{All_hold, none as All-none, more as All-more, first→refused}
+use Rattle.model.proofs.Verdict.{AllHold, none as All-none, more as All-more, first→refused}
 
 -- ---- rules that hold
 
-pub first_holds : {r : Rule} {rs : List Rule} → All_hold (r ∷ rs) → r.holds ≡ true
+pub first_holds : {r : Rule} {rs : List Rule} → AllHold (r ∷ rs) → r.holds ≡ true
 first_holds (All-more h a) = h
 
-pub rest_hold : {r : Rule} {rs : List Rule} → All_hold (r ∷ rs) → All_hold rs
+pub rest_hold : {r : Rule} {rs : List Rule} → AllHold (r ∷ rs) → AllHold rs
 rest_hold (All-more h a) = a
 
 -- ---- the number that is given
@@ -57,18 +57,18 @@ lacks→not_given {w} (other {r} {rs} h l) e = go (lacks→not_given l) (source 
     go rest (from_rest f d) = rest d
 
 module _ (r : Rule) (after : List Rule) (l : Lacks (number r.why) after) where
-  first_failing : (before : List Rule) → Lacks (number r.why) before → verdict (before ++ (r ∷ after)) ≡ Refused (refusal r.why r.place) → All_hold before × (r.holds ≡ false)
+  first_failing : (before : List Rule) → Lacks (number r.why) before → verdict (before ++ (r ∷ after)) ≡ Refused (refusal r.why r.place) → AllHold before × (r.holds ≡ false)
   unfolding refusal
   first_failing [] empty e = go (source r after (refusal r.why r.place) e)
     where
-      go : Source r after (refusal r.why r.place) → All_hold [] × (r.holds ≡ false)
+      go : Source r after (refusal r.why r.place) → AllHold [] × (r.holds ≡ false)
       go (from_first f n) = (All-none, f)
       go (from_rest f d) = absurd (lacks→not_given l d)
   first_failing (b ∷ bs) (other h k) e = go (first_failing bs k) (source b (bs ++ (r ∷ after)) (refusal r.why r.place) e)
     where
-      go : (verdict (bs ++ (r ∷ after)) ≡ Refused (refusal r.why r.place) → All_hold bs × (r.holds ≡ false)) → Source b (bs ++ (r ∷ after)) (refusal r.why r.place) → All_hold (b ∷ bs) × (r.holds ≡ false)
+      go : (verdict (bs ++ (r ∷ after)) ≡ Refused (refusal r.why r.place) → AllHold bs × (r.holds ≡ false)) → Source b (bs ++ (r ∷ after)) (refusal r.why r.place) → AllHold (b ∷ bs) × (r.holds ≡ false)
       go rest (from_first f n) = absurd (h n)
       go rest (from_rest f d) = let x = rest d in (All-more f x.0, x.1)
 
-  pub given_exactly : (before : List Rule) → Lacks (number r.why) before → (verdict (before ++ (r ∷ after)) ≡ Refused (refusal r.why r.place)) ↔ (All_hold before × (r.holds ≡ false))
+  pub given_exactly : (before : List Rule) → Lacks (number r.why) before → (verdict (before ++ (r ∷ after)) ≡ Refused (refusal r.why r.place)) ↔ (AllHold before × (r.holds ≡ false))
   given_exactly before k = (first_failing before k, (λ x. first→refused (record { before = before; after = after; split = refl; hold = x.0; fails = x.1 })))

@@ -34,16 +34,16 @@ reason_numbered record_count = (omega arith, omega arith)
 reason_numbered wrong_room = (omega arith, omega arith)
 
 -- every rule of the list holds
-pub data All_hold : List Rule → Type 0 where
-  none : All_hold []
-  more : {r : Rule} {rs : List Rule} → r.holds ≡ true → All_hold rs → All_hold (r ∷ rs)
+pub data AllHold : List Rule → Type 0 where
+  none : AllHold []
+  more : {r : Rule} {rs : List Rule} → r.holds ≡ true → AllHold rs → AllHold (r ∷ rs)
 
 -- r is the first rule of the list that does not hold: those before it do
 pub record FirstFailing (rs : List Rule) (r : Rule) : Type 0 where
   pub before : List Rule
   pub after : List Rule
   pub split : rs ≡ before ++ (r ∷ after)
-  pub hold : All_hold before
+  pub hold : AllHold before
   pub fails : r.holds ≡ false
 
 step : (b : Bool) (why : Reason) (place : ℕ) (o : Outcome) → or_refused b why place o ≡ Done → (b ≡ true) × (o ≡ Done)
@@ -51,12 +51,12 @@ unfolding or_refused
 step true why place o e = (refl, e)
 step false why place o e = clash cc
 
-pub done→all : (rs : List Rule) → verdict rs ≡ Done → All_hold rs
+pub done→all : (rs : List Rule) → verdict rs ≡ Done → AllHold rs
 unfolding verdict
 done→all [] e = none
 done→all (r ∷ rs) e = let s = step r.holds r.why r.place (verdict rs) e in more s.0 (done→all rs s.1)
 
-pub all→done : {rs : List Rule} → All_hold rs → verdict rs ≡ Done
+pub all→done : {rs : List Rule} → AllHold rs → verdict rs ≡ Done
 unfolding verdict or_refused
 all→done none = refl
 all→done (more {r} {rs} h a) = ap (λ b. or_refused b r.why r.place (verdict rs)) h ∙ all→done a
@@ -84,7 +84,7 @@ pub first→refused : {rs : List Rule} {r : Rule} → FirstFailing rs r → verd
 unfolding verdict or_refused
 first→refused {rs} {r} f = ap verdict f.split ∙ go f.before f.hold
   where
-    go : (bs : List Rule) → All_hold bs → verdict (bs ++ (r ∷ f.after)) ≡ Refused (refusal r.why r.place)
+    go : (bs : List Rule) → AllHold bs → verdict (bs ++ (r ∷ f.after)) ≡ Refused (refusal r.why r.place)
     go [] none = ap (λ b. or_refused b r.why r.place (verdict f.after)) f.fails
     go (b ∷ bs) (more h a) = ap (λ x. or_refused x b.why b.place (verdict (bs ++ (r ∷ f.after)))) h ∙ go bs a
 
@@ -125,9 +125,9 @@ refused→first (r ∷ rs) why e = go (λ d. refused→first rs why d) r.holds r
     go rest false h = here r rs why h (at false h)
 
 -- Every order has one outcome: nothing is refused where all rules hold, and else the first that does not gives the refusal.
-pub order_outcome : (rs : List Rule) → (verdict rs ≡ Done × All_hold rs) ⊎ ((why : Refusal) × (verdict rs ≡ Refused why) × Cause rs why)
+pub order_outcome : (rs : List Rule) → (verdict rs ≡ Done × AllHold rs) ⊎ ((why : Refusal) × (verdict rs ≡ Refused why) × Cause rs why)
 order_outcome rs = go (verdict rs) refl
   where
-    go : (o : Outcome) → verdict rs ≡ o → (verdict rs ≡ Done × All_hold rs) ⊎ ((why : Refusal) × (verdict rs ≡ Refused why) × Cause rs why)
+    go : (o : Outcome) → verdict rs ≡ o → (verdict rs ≡ Done × AllHold rs) ⊎ ((why : Refusal) × (verdict rs ≡ Refused why) × Cause rs why)
     go Done e = inl (e, done→all rs e)
     go (Refused why) e = inr (why, e, refused→first rs why e)

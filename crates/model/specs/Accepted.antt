@@ -9,12 +9,12 @@ pub record Accepted (e : Element) : Type 0 where
   pub ranges : ranges_good e ≡ true
   pub unit : is_unit e.c e.s ≡ true
 
-unfoldable pub All_accepted : List Element → Type 0
-All_accepted [] = Unit {0}
-All_accepted (e ∷ es) = Accepted e × All_accepted es
+unfoldable pub AllAccepted : List Element → Type 0
+AllAccepted [] = Unit {0}
+AllAccepted (e ∷ es) = Accepted e × AllAccepted es
 
 -- "A crest alignment is 1 to 60 elements": so many, each accepted as above; its joins are not asked about.
 pub record AlignmentAccepted (es : List Element) : Type 0 where
   pub some : 1 ≤ length es
   pub most : length es ≤ most_records
-  pub each : All_accepted es
+  pub each : AllAccepted es

@@ -27,29 +27,29 @@ use Rattle.model.specs.Walk.{visit_count}
 -- ---- the paper's number, place and values of an answer
 
 -- "A refusal returns its number and a place .., all other numbers zero"; an answer has number 0.
-pub record Paper_answer : Type 0 where
+pub record PaperAnswer : Type 0 where
   pub number : ℕ
   pub place : ℕ
   pub values : List ℤ
 
-abbrev pub answered_with : List ℤ → Paper_answer
+abbrev pub answered_with : List ℤ → PaperAnswer
 answered_with values = record { number = 0; place = 0; values = values }
 
 -- a refusal of a question that has n values
-abbrev pub refused_with : Refusal → ℕ → Paper_answer
+abbrev pub refused_with : Refusal → ℕ → PaperAnswer
 refused_with r n = record { number = r.number; place = r.place; values = replicate n (pos 0) }
 
 -- of an order that comes to this outcome, for a question that has these values
-unfoldable pub paper_if : Outcome → List ℤ → Paper_answer
+unfoldable pub paper_if : Outcome → List ℤ → PaperAnswer
 paper_if Done values = answered_with values
 paper_if (Refused r) values = refused_with r (length values)
 
 -- "A C call returns the refusal number plus 256 times its place, or 0"
-unfoldable pub code : Paper_answer → ℕ
+unfoldable pub code : PaperAnswer → ℕ
 code p = p.number + 256 * p.place
 
 -- a check and a writer have no values
-unfoldable pub paper_of_outcome : Outcome → Paper_answer
+unfoldable pub paper_of_outcome : Outcome → PaperAnswer
 paper_of_outcome Done = answered_with []
 paper_of_outcome (Refused r) = refused_with r 0
 
@@ -72,7 +72,7 @@ unfolding answer_if verdict
 answer_after before q = answer_if (verdict (before ++ q.order)) q
 
 -- the same by the paper's number, place and values
-unfoldable pub paper_after : {A : Type 0} → List Rule → Question A → Paper_answer
+unfoldable pub paper_after : {A : Type 0} → List Rule → Question A → PaperAnswer
 unfolding paper_if verdict
 paper_after before q = paper_if (verdict (before ++ q.order)) q.values
 
@@ -80,7 +80,7 @@ paper_after before q = paper_if (verdict (before ++ q.order)) q.values
 abbrev pub asked : {A : Type 0} → (List Element → Question A) → Crest → A
 asked question c = answer_after c.rules (question c.elements)
 
-abbrev pub asked_paper : {A : Type 0} → (List Element → Question A) → Crest → Paper_answer
+abbrev pub asked_paper : {A : Type 0} → (List Element → Question A) → Crest → PaperAnswer
 asked_paper question c = paper_after c.rules (question c.elements)
 
 -- on the elements of an accepted alignment, and where there is no crest
@@ -134,7 +134,7 @@ placed_on es s = answer_of (station_question s es)
 abbrev pub placed : Crest → ℤ → Placed
 placed c s = asked (station_question s) c
 
-unfoldable pub paper_of_placed : Placed → Paper_answer
+unfoldable pub paper_of_placed : Placed → PaperAnswer
 paper_of_placed (PlacedAt x y tx ty) = answered_with (x ∷ y ∷ tx ∷ ty ∷ [])
 paper_of_placed (PlacedRefused r) = refused_with r 4
 
@@ -176,7 +176,7 @@ abbrev pub located : Crest → Point → Located
 located c p = asked (point_question p) c
 
 -- "Every answer to a plane point carries it beside station, offset and residual; a refusal gives 0 for it"
-unfoldable pub paper_of_located : Located → Paper_answer
+unfoldable pub paper_of_located : Located → PaperAnswer
 paper_of_located (LocatedAt station offset residual visits) = answered_with (pos station ∷ offset ∷ residual ∷ pos visits ∷ [])
 paper_of_located (LocatedRefused r) = refused_with r 4
 
@@ -217,7 +217,7 @@ inverse_on es s w = answer_of (place_question s w es)
 abbrev pub inverse : Crest → ℤ → ℤ → Inverse
 inverse c s w = asked (place_question s w) c
 
-unfoldable pub paper_of_inverse : Inverse → Paper_answer
+unfoldable pub paper_of_inverse : Inverse → PaperAnswer
 paper_of_inverse (InverseAt x y) = answered_with (x ∷ y ∷ [])
 paper_of_inverse (InverseRefused r) = refused_with r 2
 
@@ -254,6 +254,6 @@ move_question own target c s =
 abbrev pub stake_out : Point → Point → ℤ → ℤ → Move
 stake_out own target c s = answer_of (move_question own target c s)
 
-unfoldable pub paper_of_move : Move → Paper_answer
+unfoldable pub paper_of_move : Move → PaperAnswer
 paper_of_move (By forward left) = answered_with (forward ∷ left ∷ [])
 paper_of_move (MoveRefused r) = refused_with r 2

@@ -18,24 +18,24 @@ unfolding total
 is_station es s = non_neg s && leb (nat_abs s) (total es)
 
 -- where a station lies: its element, with its number counted from 0, and "s .. the mm from the element's start"
-pub record At_element : Type 0 where
+pub record AtElement : Type 0 where
   pub number : ℕ
   pub element : Element
   pub s : ℕ
 
-abbrev pub at_element : ℕ → Element → ℕ → At_element
+abbrev pub at_element : ℕ → Element → ℕ → AtElement
 at_element i e s = record { number = i; element = e; s = s }
 
 -- what stands for an element where there is none: no accepted alignment is empty
 abbrev pub no_element : Element
 no_element = record { kind = Line; length = 0; x = pos 0; y = pos 0; c = pos 0; s = pos 0; radius = pos 0 }
 
-unfoldable pub at_if : Bool → At_element → At_element → At_element
+unfoldable pub at_if : Bool → AtElement → AtElement → AtElement
 at_if true a b = a
 at_if false a b = b
 
 -- "A station at a join belongs to the later element (source document 000: 0 ≤ l < L); T belongs to the last.": of elements of which the first has the number i
-unfoldable pub at_from : ℕ → List Element → ℕ → At_element
+unfoldable pub at_from : ℕ → List Element → ℕ → AtElement
 unfolding at_if
 at_from i [] s = at_element i no_element s
 at_from i (e ∷ []) s = at_element i e s
@@ -43,7 +43,7 @@ at_from i (e ∷ f ∷ es) s =
     let later = at_from (i + 1) (f ∷ es) (s - e.length) in
     at_if (ltb s e.length) (at_element i e s) later
 
-unfoldable pub at_station : List Element → ℕ → At_element
+unfoldable pub at_station : List Element → ℕ → AtElement
 unfolding at_from
 at_station es s = at_from 0 es s
 

@@ -12,7 +12,7 @@ use Rattle.model.specs.declared.Element.{Element}
 use Rattle.model.specs.declared.Point.{Point}
 use Rattle.model.specs.declared.Located.TheVariants.{At as LocatedAt}
 use Rattle.model.specs.Acceptance.{longest_alignment}
-use Rattle.model.specs.Accepted.{All_accepted}
+use Rattle.model.specs.Accepted.{AllAccepted}
 use Rattle.model.specs.Stations.{position_at, tangent_at, distance_sq, D}
 use Rattle.model.specs.Judged.{judged, residual_of, offset_of, minus, residual_at, offset_at}
 use Rattle.model.specs.Answers.{farthest, located_on}
@@ -49,7 +49,7 @@ near_sides p q h =
     let b = nat_abs (p.y -ℤ q.y) in
     (side a b h, side b a (omega (arith, h)))
 
-pub answer_fits : (es : List Element) → length es ≤ 60 → All_accepted es → (p : Point) (station : ℕ) (offset residual : ℤ) (count : ℕ) →
+pub answer_fits : (es : List Element) → length es ≤ 60 → AllAccepted es → (p : Point) (station : ℕ) (offset residual : ℤ) (count : ℕ) →
     located_on es p ≡ LocatedAt station offset residual count → Fits station offset residual
 unfolding D residual_at offset_at
 answer_fits es most accepted p station offset residual count e =

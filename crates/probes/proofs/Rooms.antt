@@ -18,7 +18,7 @@ use Rattle.model.specs.declared.Inverse.TheVariants.{At as InverseAt, Refused as
 use Rattle.model.specs.Records.{put_all}
 use Rattle.model.specs.Refusals.{refusal, number, rule₀, wrong_room, or_refused, verdict}
 use Rattle.model.specs.Crest.{Crest}
-use Rattle.model.specs.Answers.{Paper_answer, code, Question, answer_after, asked, station_question, placed, paper_of_placed, point_question, located, paper_of_located, place_question, inverse, paper_of_inverse}
+use Rattle.model.specs.Answers.{PaperAnswer, code, Question, answer_after, asked, station_question, placed, paper_of_placed, point_question, located, paper_of_located, place_question, inverse, paper_of_inverse}
 use Rattle.model.proofs.Answers.{Tells, told_refused, station_tells, point_tells, place_tells}
 use Rattle.probes.specs.declared.Reply.{Reply}
 use Rattle.probes.specs.Replies.{reply_of_placed, reply_of_located, reply_of_inverse, reply_code, reply_bytes}
@@ -48,13 +48,13 @@ inverse_sent (InverseRefused why) room = refl
 
 -- ---- a question of any sort
 
-module _ {A : Type 0} (paper_of : A → Paper_answer) (bytes : A → List ℕ → List ℕ) (n : ℕ) (question : List Element → Question A) (c : Crest) (room : List ℕ) where
+module _ {A : Type 0} (paper_of : A → PaperAnswer) (bytes : A → List ℕ → List ℕ) (n : ℕ) (question : List Element → Question A) (c : Crest) (room : List ℕ) where
   call_18 : {refused : Refusal → A} → Tells refused paper_of (question c.elements) → ((why : Refusal) → bytes (refused why) room ≡ room) → (length room ≡ n → ⊥) → call_of paper_of bytes n question c room ≡ (18, room)
   unfolding call_of code verdict or_refused refusal number
   call_18 tells keeps other =
       let why = refusal wrong_room 0 in
       ap (λ a. (code (paper_of a), bytes a room)) (told_refused tells (rule₀ wrong_room (eqb (length room) n) ∷ c.rules) (rw (ne_eqb (length room) n other)))
-      ∙ ap₂ (λ (p : Paper_answer) (l : List ℕ). (code p, l)) (tells.zeros why) (keeps why)
+      ∙ ap₂ (λ (p : PaperAnswer) (l : List ℕ). (code p, l)) (tells.zeros why) (keeps why)
 
   call_asked : length room ≡ n → call_of paper_of bytes n question c room ≡ (code (paper_of (asked question c)), bytes (asked question c) room)
   unfolding call_of answer_after verdict or_refused

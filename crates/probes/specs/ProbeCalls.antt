@@ -13,7 +13,7 @@ use Rattle.model.specs.declared.Inverse.TheVariants.{At as InverseAt, Refused as
 use Rattle.model.specs.Records.{record_size, field, put_all, u32_bytes, i32_bytes}
 use Rattle.model.specs.Refusals.{rule₀, or_refused, wrong_room}
 use Rattle.model.specs.Crest.{Crest}
-use Rattle.model.specs.Answers.{Paper_answer, code, paper_of_outcome, reader_outcome, reader_part, Question, answer_after, station_question, paper_of_placed, point_question, paper_of_located, place_question, paper_of_inverse}
+use Rattle.model.specs.Answers.{PaperAnswer, code, paper_of_outcome, reader_outcome, reader_part, Question, answer_after, station_question, paper_of_placed, point_question, paper_of_located, place_question, paper_of_inverse}
 
 -- room for two numbers of 32 bits and for four, and where each lies
 abbrev pub two_size : ℕ
@@ -35,7 +35,7 @@ abbrev pub slot_d : ℕ
 slot_d = 12
 
 -- a question to a crest in room of n bytes: 18 for other room, then the crest's own refusals and the question's
-unfoldable pub call_of : {A : Type 0} → (A → Paper_answer) → (A → List ℕ → List ℕ) → ℕ → (List Element → Question A) → Crest → List ℕ → ℕ × List ℕ
+unfoldable pub call_of : {A : Type 0} → (A → PaperAnswer) → (A → List ℕ → List ℕ) → ℕ → (List Element → Question A) → Crest → List ℕ → ℕ × List ℕ
 unfolding code answer_after
 call_of paper_of bytes n question c room =
     let answer = answer_after (rule₀ wrong_room (eqb (length room) n) ∷ c.rules) (question c.elements) in

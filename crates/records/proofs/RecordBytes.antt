@@ -9,14 +9,14 @@ use lib.ListN.{length, drop, get_or}
 use lib.Seq.{take-add, drop-drop}
 use Rattle.model.specs.Records.{part, record_of}
 use Rattle.model.specs.Acceptance.{element_of, record_fields, element_bytes, reserved_zero, record_rules, element_at, elements_from, elements_bytes}
-use Rattle.model.proofs.Verdict.{All_hold, more}
+use Rattle.model.proofs.Verdict.{AllHold, more}
 use Rattle.model.proofs.KindBytes.{kind_same}
 use Rattle.fields.proofs.Bytes.{AllBytes}
 use Rattle.fields.proofs.NumberBytes.{u32_same, i32_same}
 use Rattle.fields.proofs.Listed.{list_of, written_out}
 use Rattle.fields.proofs.Zeros.{part_zero}
 
-listed_same : (f : ℕ → ℕ) (r : ℕ) → ((i : ℕ) → f i < 256) → All_hold (record_rules (list_of 32 f) r) → element_bytes (element_of (list_of 32 f)) ≡ list_of 32 f
+listed_same : (f : ℕ → ℕ) (r : ℕ) → ((i : ℕ) → f i < 256) → AllHold (record_rules (list_of 32 f) r) → element_bytes (element_of (list_of 32 f)) ≡ list_of 32 f
 unfolding list_of element_bytes element_of record_rules reserved_zero
 listed_same f r b (more damaged (more later (more reserved a))) =
     let zeros = (and-eq-true_iff _ _).0 reserved in
@@ -32,9 +32,9 @@ listed_same f r b (more damaged (more later (more reserved a))) =
     (i32_same (f 24) (f 25) (f 26) (f 27) (b 24) (b 25) (b 26) (b 27) i)
     (sym ((part_zero (list_of 32 f) 28 4 (omega arith)).0 zeros.1) i))
 
-pub record_same : (l : List ℕ) (r : ℕ) → length l ≡ 32 → AllBytes l → All_hold (record_rules l r) → element_bytes (element_of l) ≡ l
+pub record_same : (l : List ℕ) (r : ℕ) → length l ≡ 32 → AllBytes l → AllHold (record_rules l r) → element_bytes (element_of l) ≡ l
 record_same l r e b =
-    subst (λ (m : List ℕ). All_hold (record_rules m r) → element_bytes (element_of m) ≡ m) (sym (written_out l 32 e)) (listed_same (λ i. get_or l i 0) r b.below)
+    subst (λ (m : List ℕ). AllHold (record_rules m r) → element_bytes (element_of m) ≡ m) (sym (written_out l 32 e)) (listed_same (λ i. get_or l i 0) r b.below)
 
 -- ---- all records
 

@@ -227,10 +227,10 @@ module _ (k : Sighting) (holds : verdict (sight_rules k) ≡ Done) where
   abbrev ty : ℤ
   ty = (turned_of k).y
 
-  abbrev Near_units : Type 0
-  Near_units = (nat_abs (k.backsight_c *ℤ k.backsight_c +ℤ k.backsight_s *ℤ k.backsight_s -ℤ pos unit_square) ≤ unit_slack) × (nat_abs (k.angle_c *ℤ k.angle_c +ℤ k.angle_s *ℤ k.angle_s -ℤ pos unit_square) ≤ unit_slack)
+  abbrev NearUnits : Type 0
+  NearUnits = (nat_abs (k.backsight_c *ℤ k.backsight_c +ℤ k.backsight_s *ℤ k.backsight_s -ℤ pos unit_square) ≤ unit_slack) × (nat_abs (k.angle_c *ℤ k.angle_c +ℤ k.angle_s *ℤ k.angle_s -ℤ pos unit_square) ≤ unit_slack)
 
-  units : Near_units
+  units : NearUnits
   unfolding sight_rules is_unit
   units = let a = done→all _ holds in (leb-true _ _ (first_holds a), leb-true _ _ (first_holds (rest_hold a)))
 

@@ -8,8 +8,8 @@ use lib.ListN.{length, drop}
 use Rattle.model.specs.Records.{count_of, record_of}
 use Rattle.model.specs.Refusals.{for_each}
 use Rattle.model.specs.Acceptance.{element_at, record_rules, each_record, elements_from, elements_of}
-use Rattle.model.specs.Accepted.{Accepted, All_accepted}
-use Rattle.model.proofs.Verdict.{All_hold, all→done}
+use Rattle.model.specs.Accepted.{Accepted, AllAccepted}
+use Rattle.model.proofs.Verdict.{AllHold, all→done}
 use Rattle.model.proofs.Accepted.{record_accepted}
 use Rattle.model.proofs.ForEach.{append_all}
 
@@ -34,24 +34,24 @@ module _ (bytes : List ℕ) where
   unfolding elements_of
   elements_at i h = rw zero-add at (from_at (count_of bytes) 0 i h)
 
-  from_each : (n r : ℕ) → All_accepted (elements_from n r bytes) → (i : ℕ) → i < n → Accepted (element_at bytes (r + i))
-  unfolding elements_from All_accepted
+  from_each : (n r : ℕ) → AllAccepted (elements_from n r bytes) → (i : ℕ) → i < n → Accepted (element_at bytes (r + i))
+  unfolding elements_from AllAccepted
   from_each zero r a i h = absurd (omega arith)
   from_each (suc n) r a zero h = rw add-zero a.0
   from_each (suc n) r a (suc i) h = let e : r + suc i ≡ r + 1 + i = omega arith in rw e (from_each n (r + 1) a.1 i (omega arith))
 
-  pub each_accepted : All_accepted (elements_of bytes) → (i : ℕ) → i < count_of bytes → Accepted (element_at bytes i)
+  pub each_accepted : AllAccepted (elements_of bytes) → (i : ℕ) → i < count_of bytes → Accepted (element_at bytes i)
   unfolding elements_of
   each_accepted a i h = rw zero-add at (from_each (count_of bytes) 0 a i h)
 
-  from_accepted : (n r : ℕ) → All_hold (for_each (λ i. record_rules (record_of bytes i) i) n r) → All_accepted (elements_from n r bytes)
-  unfolding for_each elements_from element_at All_accepted
+  from_accepted : (n r : ℕ) → AllHold (for_each (λ i. record_rules (record_of bytes i) i) n r) → AllAccepted (elements_from n r bytes)
+  unfolding for_each elements_from element_at AllAccepted
   from_accepted zero r a = tt
   from_accepted (suc n) r a =
       let x = append_all (record_rules (record_of bytes r) r) a in
       (record_accepted (record_of bytes r) r (all→done x.0), from_accepted n (r + 1) x.1)
 
   -- the elements of records that refuse nothing are accepted
-  pub elements_accepted : All_hold (each_record bytes) → All_accepted (elements_of bytes)
+  pub elements_accepted : AllHold (each_record bytes) → AllAccepted (elements_of bytes)
   unfolding elements_of each_record
   elements_accepted a = from_accepted (count_of bytes) 0 a

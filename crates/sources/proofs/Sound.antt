@@ -10,7 +10,7 @@ use Rattle.model.specs.Crest.{check_of, file_crest, is_own, SoundCrest}
 use Rattle.model.proofs.Verdict.{done→all, all→done}
 use Rattle.model.proofs.RuleNumbers.{gives-++, records_own, blocks_own}
 use Rattle.model.proofs.ForEach.{append_all}
-use Rattle.crestfile.proofs.Placed.{Placed_order, then_placed, blocks_placed, records_placed}
+use Rattle.crestfile.proofs.Placed.{PlacedOrder, then_placed, blocks_placed, records_placed}
 use Rattle.sources.specs.declared.Form.{Form}
 use Rattle.sources.specs.declared.Form.TheVariants.{File}
 use Rattle.sources.specs.Sources.{layout_rules, records_in, crest_in, Readable, SourceAccepted}
@@ -37,7 +37,7 @@ module _ (form : Form) (crest amendment : List ℕ) where
       records_accepted (all→done a.0) (all→done b.0)
 
   -- So a form is a source where the rules of its layout give a crest's own numbers, with places up to 60: those of the records do.
-  pub crest_sound : Gives is_own (layout_rules form crest amendment) → Placed_order (layout_rules form crest amendment) → SoundCrest (crest_in form crest amendment)
+  pub crest_sound : Gives is_own (layout_rules form crest amendment) → PlacedOrder (layout_rules form crest amendment) → SoundCrest (crest_in form crest amendment)
   crest_sound own placed =
       let bytes = records_in form crest amendment in
       record {

@@ -9,7 +9,7 @@ use Rattle.model.specs.declared.Placed.TheVariants.{At, Refused}
 use Rattle.model.specs.Refusals.{verdict, or_refused, refusal, number}
 use Rattle.model.specs.Stations.{is_station, position_at, tangent_at}
 use Rattle.model.specs.Answers.{answer_if, answer_after, station_rules, station_question, placed_on}
-use Rattle.model.specs.Accepted.{All_accepted}
+use Rattle.model.specs.Accepted.{AllAccepted}
 use Rattle.elements.specs.Extent.{Placeable}
 use Rattle.stations.proofs.StationRange.{station_within}
 use Rattle.stations.proofs.StationExtent.{station_placeable}
@@ -24,7 +24,7 @@ module _ (es : List Element) (s : ℤ) where
   place_done h = rw h
 
 -- what is answered fits an i32
-pub place_small : (es : List Element) (s : ℤ) → All_accepted es → {x y tx ty : ℤ} → placed_on es s ≡ At x y tx ty → Placeable (record { x = x; y = y; tx = tx; ty = ty })
+pub place_small : (es : List Element) (s : ℤ) → AllAccepted es → {x y tx ty : ℤ} → placed_on es s ≡ At x y tx ty → Placeable (record { x = x; y = y; tx = tx; ty = ty })
 place_small es s a {x} {y} {tx} {ty} q = go (is_station es s) refl
   where
     go : (b : Bool) → is_station es s ≡ b → Placeable (record { x = x; y = y; tx = tx; ty = ty })

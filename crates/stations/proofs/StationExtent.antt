@@ -10,7 +10,7 @@ use Rattle.model.specs.declared.Element.{Element}
 use Rattle.model.specs.Rounding.{ONE, near}
 use Rattle.model.specs.Stations.{total, position_at, tangent_at}
 use Rattle.model.specs.Answers.{widest_offset}
-use Rattle.model.specs.Accepted.{All_accepted}
+use Rattle.model.specs.Accepted.{AllAccepted}
 use Rattle.rounding.proofs.Sizes.{near_0, near_within}
 use Rattle.elements.specs.declared.Placement.{Placement}
 use Rattle.elements.specs.Reached.{placement_of}
@@ -32,7 +32,7 @@ none_placed = ap nowhere (near_0 {d = ONE} (omega arith))
 none_placeable : Placeable (placed_in [] 0)
 none_placeable = rw none_placed (record { x = omega arith; y = omega arith; tx = omega arith; ty = omega arith })
 
-pub station_placeable : (es : List Element) (s : ℕ) → All_accepted es → s ≤ total es → Placeable (placement_of (position_at es s) (tangent_at es s))
+pub station_placeable : (es : List Element) (s : ℕ) → AllAccepted es → s ≤ total es → Placeable (placement_of (position_at es s) (tangent_at es s))
 unfolding position_at tangent_at total
 station_placeable [] s a h = let e : 0 ≡ s = omega arith in subst (λ (n : ℕ). Placeable (placed_in [] n)) e none_placeable
 station_placeable (e ∷ es) s a h =

@@ -7,7 +7,7 @@ use lib.ListN.{length, take}
 use Rattle.model.specs.declared.Element.{Element}
 use Rattle.model.specs.Stations.{total}
 use Rattle.model.specs.Acceptance.{longest_alignment, longest_element}
-use Rattle.model.specs.Accepted.{All_accepted}
+use Rattle.model.specs.Accepted.{AllAccepted}
 use Rattle.model.proofs.Accepted.{numbers}
 use Rattle.walk_laws.proofs.Own.{total_at}
 use Rattle.sources.specs.declared.Form.{Form}
@@ -15,8 +15,8 @@ use Rattle.sources.specs.Sources.{elements_in}
 use Rattle.sources.proofs.RecordsRead.{RecordsRead, element_in, read_at, read_length, read_count}
 
 -- "1 to 500,000" mm each
-pub total_within : (es : List Element) → All_accepted es → total es ≤ longest_element * length es
-unfolding total All_accepted
+pub total_within : (es : List Element) → AllAccepted es → total es ≤ longest_element * length es
+unfolding total AllAccepted
 total_within [] h = omega arith
 total_within (e ∷ es) h = omega (arith, (numbers h.0).longest, total_within es h.1)
 

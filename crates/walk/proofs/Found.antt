@@ -13,7 +13,7 @@ use lib.Dec.{eqb, ltb}
 use borrow.Author.Tests.{ltb-true, ltb-false, eqb-true, eqb-false}
 use Rattle.model.specs.declared.Element.{Element}
 use Rattle.model.specs.declared.Point.{Point}
-use Rattle.model.specs.Accepted.{All_accepted}
+use Rattle.model.specs.Accepted.{AllAccepted}
 use Rattle.model.specs.Stations.{total, D}
 use Rattle.model.specs.Walk.{multiples_from, first_visits, first_best, own_stations, second_from, second_visits, visits, visit_count, is_in}
 use Rattle.model.proofs.Accepted.{numbers}
@@ -143,8 +143,8 @@ first_begins : (t : ℕ) → first_visits t ≡ 0 ∷ (multiples_from (t / 1000)
 unfolding first_visits multiples_from
 first_begins t = rw (add-one (t / 1000))
 
-start_small : (es : List Element) → 0 < length es → All_accepted es → (q : Point) → InFrame q → D es q 0 ≤ unreached
-unfolding All_accepted total
+start_small : (es : List Element) → 0 < length es → AllAccepted es → (q : Point) → InFrame q → D es q 0 ≤ unreached
+unfolding AllAccepted total
 start_small [] h a q f = absurd (omega arith)
 start_small (e ∷ es) h a q f =
     let own : 0 < own_stations e es = omega (arith, own_between e es, (numbers a.0).shortest) in
@@ -153,7 +153,7 @@ start_small (e ∷ es) h a q f =
 seen_is : (r : Seen) {a b c : ℕ} → r.best ≡ a → r.at ≡ b → r.visits ≡ c → r ≡ record { best = a; at = b; visits = c }
 seen_is r p q s = rw (← p, ← q, ← s)
 
-module _ (es : List Element) (some : 0 < length es) (accepted : All_accepted es) (q : Point) (frame : InFrame q) where
+module _ (es : List Element) (some : 0 < length es) (accepted : AllAccepted es) (q : Point) (frame : InFrame q) where
   abbrev d : ℕ → ℕ
   d = D es q
 

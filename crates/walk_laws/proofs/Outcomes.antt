@@ -30,20 +30,20 @@ use Rattle.model.specs.Judged.{judged, residual_at, offset_at}
 use Rattle.model.specs.Walk.{first_visits, second_visits, visits, visit_count}
 use Rattle.model.specs.Answers.{farthest, past_end, point_rules, answer_if, answer_after, point_question, located_on, located}
 use Rattle.model.proofs.Answers.{told_exactly, point_tells}
-use Rattle.model.proofs.Verdict.{All_hold, none, more, done→all, all→done}
+use Rattle.model.proofs.Verdict.{AllHold, none, more, done→all, all→done}
 use Rattle.model.proofs.AfterCrest.{asked_exactly}
 use Rattle.model.proofs.Reasons.{first_holds, rest_hold, Lacks, empty, other, given_exactly}
 
 -- ---- the table's conditions, each where none before it applies
 
-abbrev pub Too_far : List Element → Point → Type 0
-Too_far es p = (in_frame p.x p.y ≡ true) × (farthest < D es p (judged es p))
+abbrev pub TooFar : List Element → Point → Type 0
+TooFar es p = (in_frame p.x p.y ≡ true) × (farthest < D es p (judged es p))
 
-abbrev pub Before_start : List Element → Point → Type 0
-Before_start es p = (in_frame p.x p.y ≡ true) × (D es p (judged es p) ≤ farthest) × (judged es p ≡ 0) × (residual_at es p (judged es p) <ℤ neg_ℤ (pos past_end))
+abbrev pub BeforeStart : List Element → Point → Type 0
+BeforeStart es p = (in_frame p.x p.y ≡ true) × (D es p (judged es p) ≤ farthest) × (judged es p ≡ 0) × (residual_at es p (judged es p) <ℤ neg_ℤ (pos past_end))
 
-abbrev pub After_end : List Element → Point → Type 0
-After_end es p = (in_frame p.x p.y ≡ true) × (D es p (judged es p) ≤ farthest) × (judged es p ≡ total es) × (pos past_end <ℤ residual_at es p (judged es p))
+abbrev pub AfterEnd : List Element → Point → Type 0
+AfterEnd es p = (in_frame p.x p.y ≡ true) × (D es p (judged es p) ≤ farthest) × (judged es p ≡ total es) × (pos past_end <ℤ residual_at es p (judged es p))
 
 -- An answer: none of 11 to 14 applies, and it gives the station judged with its offset and residual, and how many stations both passes visit.
 pub record Answered (es : List Element) (p : Point) (at : ℕ) (w r : ℤ) (n : ℕ) : Type 0 where
@@ -115,7 +115,7 @@ module _ (es : List Element) (p : Point) where
   end_holds = holds_unless end.holds end_fails
 
   refused_by_lem : (before : List Rule) (r : Rule) (after : List Rule) → before ++ (r ∷ after) ≡ (frame ∷ near ∷ start ∷ end ∷ []) →
-      Lacks (number r.why) before → Lacks (number r.why) after → (located_on es p ≡ LocatedRefused (refusal r.why r.place)) ↔ (All_hold before × (r.holds ≡ false))
+      Lacks (number r.why) before → Lacks (number r.why) after → (located_on es p ≡ LocatedRefused (refusal r.why r.place)) ↔ (AllHold before × (r.holds ≡ false))
   unfolding point_question point_rules
   refused_by_lem before r after split k l = Iff.trans (told_exactly (point_tells p es) [] (refusal r.why r.place)) (rw split at (given_exactly r after l before k))
 
@@ -126,14 +126,14 @@ module _ (es : List Element) (p : Point) where
       (refused_by_lem [] frame (near ∷ start ∷ end ∷ []) refl empty (other (omega arith) (other (omega arith) (other (omega arith) empty))))
       ((λ x. x.1), (λ e. (none, e)))
 
-  pub too_far_lem : (located_on es p ≡ LocatedRefused (refusal too_far 0)) ↔ Too_far es p
+  pub too_far_lem : (located_on es p ≡ LocatedRefused (refusal too_far 0)) ↔ TooFar es p
   unfolding number
   too_far_lem =
       Iff.trans
       (refused_by_lem (frame ∷ []) near (start ∷ end ∷ []) refl (other (omega arith) empty) (other (omega arith) (other (omega arith) empty)))
       ((λ x. (first_holds x.0, near_fails.0 x.1)), (λ x. (more x.0 none, near_fails.1 x.1)))
 
-  pub before_start_lem : (located_on es p ≡ LocatedRefused (refusal before_start 0)) ↔ Before_start es p
+  pub before_start_lem : (located_on es p ≡ LocatedRefused (refusal before_start 0)) ↔ BeforeStart es p
   unfolding number
   before_start_lem =
       Iff.trans
@@ -142,7 +142,7 @@ module _ (es : List Element) (p : Point) where
         (λ x. (more x.0 (more (near_holds.1 x.1) none), start_fails.1 (x.2, x.3))),
       )
 
-  pub after_end_lem : (located_on es p ≡ LocatedRefused (refusal after_end 0)) ↔ After_end es p
+  pub after_end_lem : (located_on es p ≡ LocatedRefused (refusal after_end 0)) ↔ AfterEnd es p
   unfolding number
   after_end_lem =
       Iff.trans
@@ -198,15 +198,15 @@ module _ (c : Crest) (own : Gives is_own c.rules) (p : Point) where
   unfolding number is_own
   crest_outside_frame = refused_on_crest outside_frame refl (outside_frame_lem c.elements p)
 
-  pub crest_too_far : (located c p ≡ LocatedRefused (refusal too_far 0)) ↔ ((check_of c ≡ Done) × Too_far c.elements p)
+  pub crest_too_far : (located c p ≡ LocatedRefused (refusal too_far 0)) ↔ ((check_of c ≡ Done) × TooFar c.elements p)
   unfolding number is_own
   crest_too_far = refused_on_crest too_far refl (too_far_lem c.elements p)
 
-  pub crest_before_start : (located c p ≡ LocatedRefused (refusal before_start 0)) ↔ ((check_of c ≡ Done) × Before_start c.elements p)
+  pub crest_before_start : (located c p ≡ LocatedRefused (refusal before_start 0)) ↔ ((check_of c ≡ Done) × BeforeStart c.elements p)
   unfolding number is_own
   crest_before_start = refused_on_crest before_start refl (before_start_lem c.elements p)
 
-  pub crest_after_end : (located c p ≡ LocatedRefused (refusal after_end 0)) ↔ ((check_of c ≡ Done) × After_end c.elements p)
+  pub crest_after_end : (located c p ≡ LocatedRefused (refusal after_end 0)) ↔ ((check_of c ≡ Done) × AfterEnd c.elements p)
   unfolding number is_own
   crest_after_end = refused_on_crest after_end refl (after_end_lem c.elements p)
 

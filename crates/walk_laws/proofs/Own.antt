@@ -9,7 +9,7 @@ use borrow.Author.Tests.{lt-ltb, le-ltb}
 use Rattle.model.specs.declared.Element.{Element}
 use Rattle.model.specs.declared.Point.{Point}
 use Rattle.model.specs.Series.{position_on}
-use Rattle.model.specs.Stations.{At_element, at_element, at_from, at_station, total, position_at, distance_sq, D}
+use Rattle.model.specs.Stations.{AtElement, at_element, at_from, at_station, total, position_at, distance_sq, D}
 use Rattle.model.specs.Walk.{own_stations}
 
 pub own_between : (e : Element) (es : List Element) → (e.length ≤ own_stations e es) × (own_stations e es ≤ e.length + 1)
@@ -49,7 +49,7 @@ at_own before e after s h = rw (← zero-add (length before)) (own_from 0 before
 
 pub D_own : (before : List Element) (e : Element) (after : List Element) (p : Point) (s : ℕ) → s < own_stations e after → D (before ++ (e ∷ after)) p (total before + s) ≡ distance_sq p (position_on e s)
 unfolding D position_at
-D_own before e after p s h = ap (λ (at : At_element). distance_sq p (position_on at.element at.s)) (at_own before e after s h)
+D_own before e after p s h = ap (λ (at : AtElement). distance_sq p (position_on at.element at.s)) (at_own before e after s h)
 
 pub total-++ : (es fs : List Element) → total (es ++ fs) ≡ total es + total fs
 unfolding total

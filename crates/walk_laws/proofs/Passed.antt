@@ -12,7 +12,7 @@ use Rattle.integers.proofs.Order.{clash}
 use Rattle.model.specs.declared.Element.{Element}
 use Rattle.model.specs.declared.Point.{Point}
 use Rattle.model.specs.Series.{position_on}
-use Rattle.model.specs.Accepted.{Accepted, All_accepted}
+use Rattle.model.specs.Accepted.{Accepted, AllAccepted}
 use Rattle.model.specs.Stations.{total, distance_sq, D}
 use Rattle.model.specs.Walk.{best_of, first_best, skipped, element_visits, own_stations, second_from, second_visits, is_in}
 use Rattle.walk_laws.proofs.Spaced.{skipped_farther}
@@ -95,8 +95,8 @@ module _ (es : List Element) (p : Point) where
           rw (distance (s + j) (omega arith) k, y) (skipped_farther e a p (s - start) j c i z n)
 
   -- from the first station of e on, where the elements `before` come before it and `after` after it
-  from_passed : (before : List Element) (e : Element) (after : List Element) → before ++ (e ∷ after) ≡ es → All_accepted (e ∷ after) → (b : ℕ) → Passed (D es p) (total before) (total es + 1) b (second_from (D es p) (e ∷ after) (total before) b)
-  unfolding second_from total All_accepted own_stations
+  from_passed : (before : List Element) (e : Element) (after : List Element) → before ++ (e ∷ after) ≡ es → AllAccepted (e ∷ after) → (b : ℕ) → Passed (D es p) (total before) (total es + 1) b (second_from (D es p) (e ∷ after) (total before) b)
+  unfolding second_from total AllAccepted own_stations
   from_passed before e [] split a b =
       let whole = ap total (sym split) ∙ total-++ before (e ∷ []) in
       passed-++ {mid = total before + (e.length + 1)} (omega arith) (omega arith)
@@ -109,7 +109,7 @@ module _ (es : List Element) (p : Point) where
       (own_passed before e (f ∷ after) split a.0 b)
       (rw start at (from_passed (before ++ (e ∷ [])) f after (append_assoc before (e ∷ []) (f ∷ after) ∙ split) a.1 (best_of (D es p) b (element_visits (D es p) e.length e.length (total before) b))))
 
-pub second_passed : (es : List Element) (p : Point) → 0 < length es → All_accepted es → Passed (D es p) 0 (total es + 1) (first_best (D es p) (total es)) (second_visits es p)
+pub second_passed : (es : List Element) (p : Point) → 0 < length es → AllAccepted es → Passed (D es p) 0 (total es + 1) (first_best (D es p) (total es)) (second_visits es p)
 unfolding second_visits total
 second_passed [] p some a = absurd (omega arith)
 second_passed (e ∷ es) p some a = from_passed (e ∷ es) p [] e es refl a (first_best (D (e ∷ es) p) (total (e ∷ es)))

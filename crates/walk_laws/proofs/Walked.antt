@@ -11,7 +11,7 @@ use native.Mathlib.Decide.{dec_lt}
 use lib.ListN.{length}
 use Rattle.model.specs.declared.Element.{Element}
 use Rattle.model.specs.declared.Point.{Point}
-use Rattle.model.specs.Accepted.{All_accepted}
+use Rattle.model.specs.Accepted.{AllAccepted}
 use Rattle.model.specs.Stations.{total, D}
 use Rattle.model.specs.Judged.{judged, Least}
 use Rattle.model.specs.Walk.{first_visits, best_of, first_best, second_visits, visits, is_in}
@@ -53,7 +53,7 @@ pub record LeftOut (es : List Element) (p : Point) (s : ℕ) : Type 0 where
   pub on : s ≤ total es
   pub unvisited : is_in s (second_visits es p) ≡ false
 
-module _ (es : List Element) (some : 0 < length es) (accepted : All_accepted es) (p : Point) where
+module _ (es : List Element) (some : 0 < length es) (accepted : AllAccepted es) (p : Point) where
   passed : Passed (D es p) 0 (total es + 1) (first_best (D es p) (total es)) (second_visits es p)
   passed = second_passed es p some accepted
 

@@ -2,7 +2,7 @@
 use mathlib.Core.Path.{sym, ap, ◌∙◌}
 use Rattle.model.specs.declared.Element.{Element}
 use Rattle.model.specs.Series.{position_on, tangent_on}
-use Rattle.model.specs.Stations.{At_element, position_at, tangent_at}
+use Rattle.model.specs.Stations.{AtElement, position_at, tangent_at}
 use Rattle.elements.specs.Reached.{placement_of}
 use Rattle.elements.proofs.Preparing.{prepared_element}
 use Rattle.stations.proofs.placed_at.Goals as goal
@@ -18,4 +18,4 @@ returns c =
     let at = c.element_of-at in
     c.placed.ensures
     ∙ ap (λ (x : Element). placement_of (position_on x at.result.s) (tangent_on x at.result.s)) e
-    ∙ ap (λ (x : At_element). placement_of (position_on x.element x.s) (tangent_on x.element x.s)) (sym at.ensures.s_value)
+    ∙ ap (λ (x : AtElement). placement_of (position_on x.element x.s) (tangent_on x.element x.s)) (sym at.ensures.s_value)

@@ -224,7 +224,7 @@ FILE_CREST_USES = ("Acceptance.{crest_rules, crest_elements}", "Crest.{file_cres
 FILE_CREST = "crest_rules crest_elements"  # what a file's crest is computed by
 
 PAPER_FORM = """-- the paper's number, place and values
-abbrev paper : ℕ → ℕ → List ℤ → Paper_answer
+abbrev paper : ℕ → ℕ → List ℤ → PaperAnswer
 paper n p v = record { number = n; place = p; values = v }
 """
 
@@ -970,13 +970,13 @@ def stations(rng):
     tables = [
         Table("totals", "ℕ", "total", totals),
         Table("allowed", "Bool", "is_station", allowed),
-        Table("elements", "At_element", "at_station", elements),
+        Table("elements", "AtElement", "at_station", elements),
         Table("element-numbers", "ℕ", "at_station", numbers),
         Table("positions", "Point", "position_at", positions),
         Table("tangents", "Point", "tangent_at", tangents),
         Table("distances", "ℕ", "D", distances),
     ]
-    uses = (*ELEMENT_USES, "Stations.{At_element, total, is_station, at_station, position_at, tangent_at, D}")
+    uses = (*ELEMENT_USES, "Stations.{AtElement, total, is_station, at_station, position_at, tangent_at, D}")
     return Chapter(7, "Stations", uses, tables, shown(named))
 
 
@@ -1243,11 +1243,11 @@ def answers(rng):
         Table("placed", "Placed", f"answer_after station_question {FILE_CREST}", placed, 8),
         Table("moves", "Move", "answer_after move_question", moves),
         Table("move-calls", "ℕ × List ℕ", "stake_out_call", calls),
-        Table("papers", "Paper_answer", "paper_of_placed paper_of_located paper_of_inverse paper_of_move", papers),
-        Table("placed-papers", "Paper_answer", f"paper_after station_question {FILE_CREST}", placed_papers, 8),
-        Table("located-papers", "Paper_answer", f"paper_after point_question {FILE_CREST}", located_papers, 5),
-        Table("inverse-papers", "Paper_answer", f"paper_after place_question {FILE_CREST}", inverse_papers, 8),
-        Table("move-papers", "Paper_answer", "paper_after move_question", move_papers),
+        Table("papers", "PaperAnswer", "paper_of_placed paper_of_located paper_of_inverse paper_of_move", papers),
+        Table("placed-papers", "PaperAnswer", f"paper_after station_question {FILE_CREST}", placed_papers, 8),
+        Table("located-papers", "PaperAnswer", f"paper_after point_question {FILE_CREST}", located_papers, 5),
+        Table("inverse-papers", "PaperAnswer", f"paper_after place_question {FILE_CREST}", inverse_papers, 8),
+        Table("move-papers", "PaperAnswer", "paper_after move_question", move_papers),
     ]
     uses = (
         *ELEMENT_USES,
@@ -1258,7 +1258,7 @@ def answers(rng):
         "declared.Move.{Move}",
         "declared.Move.TheVariants.{By, Refused as MoveRefused}",
         "Answers.{inverse_on, inverse, placed_on, placed, stake_out}",
-        "Answers.{Paper_answer, paper_of_placed, paper_of_located, paper_of_inverse, paper_of_move}",
+        "Answers.{PaperAnswer, paper_of_placed, paper_of_located, paper_of_inverse, paper_of_move}",
         "Answers.{answer_after, paper_after, asked_paper}",
         "Answers.{station_question, point_question, place_question, move_question}",
         "Calls.{stake_out_call}",
@@ -1396,9 +1396,9 @@ def readings(rng):
     tables = [
         Table("wholes", "Whole", "whole_of of_bits", wholes),
         Table("answers", "ReadingAnswer", ASKED, answered, 5),
-        Table("papers", "Paper_answer", PAPER_ASKED, papers[::2], 5),
-        Table("papers-of", "Paper_answer", f"paper_of_reading value_count {ASKED}", of_answers[1::2], 5),
-        Table("papers-of-any", "Paper_answer", "paper_of_reading value_count of_bits", of_any),
+        Table("papers", "PaperAnswer", PAPER_ASKED, papers[::2], 5),
+        Table("papers-of", "PaperAnswer", f"paper_of_reading value_count {ASKED}", of_answers[1::2], 5),
+        Table("papers-of-any", "PaperAnswer", "paper_of_reading value_count of_bits", of_any),
         Table("value-counts", "ℕ", "value_count of_bits", counts),
         Table("displays", "Display", "display_of of_int div of_bits", displays, 25),
     ]
@@ -1408,7 +1408,7 @@ def readings(rng):
         *FILE_CREST_USES,
         "declared.Display.{Display}",
         "Rattle.std.specs.Float.Ieee.{of_bits, of_int, div}",
-        "Answers.{Paper_answer, answer_after, paper_after, asked_paper}",
+        "Answers.{PaperAnswer, answer_after, paper_after, asked_paper}",
         "Readings.{Whole, whole, none, whole_of, reading_question, answer_to, value_count, paper_of_reading, display_of}",
     )
     return Chapter(11, "Readings", uses, tables, (PAPER_FORM,))
@@ -1526,7 +1526,7 @@ def run_answers(rng):
     assert len(seen) == 8, seen  # answered and refused ones of both sorts, on full and other runs
     return [
         Table("noted-answers", "Noted", "noted", noted),
-        Table("noted-papers", "Paper_answer", "noted_paper", papers),
+        Table("noted-papers", "PaperAnswer", "noted_paper", papers),
         Table("answer-calls", "ℕ × List ℕ", "reading_call", calls),
     ]
 
@@ -1564,7 +1564,7 @@ def run_calls(rng):
         Table("reading-calls", "ℕ × List ℕ", f"reading_call {ASKED}", read_calls, 5),
         Table("shown-of-readings", "Shown", f"shown_of {ASKED}", shown_[1::3], 5),
         Table("noted", "Noted", f"noted {ASKED}", noted[::2], 5),
-        Table("papers", "Paper_answer", f"noted_paper {PAPER_ASKED}", papers[::5], 5),
+        Table("papers", "PaperAnswer", f"noted_paper {PAPER_ASKED}", papers[::5], 5),
         Table("check-calls", "ℕ", f"check_call {FILE_CREST}", checks[::3], 5),
     ]
 
@@ -1663,7 +1663,7 @@ def run(rng):
         "declared.Run.{Run}",
         "Rattle.std.specs.Float.Ieee.{of_bits}",
         "declared.Noted.{Noted}",
-        "Answers.{Paper_answer, answer_after, paper_after, asked_paper}",
+        "Answers.{PaperAnswer, answer_after, paper_after, asked_paper}",
         "Readings.{reading_question, answer_to}",
         "Run.{Shown, fresh, is_full, shown_of, counted, acknowledged, noted, noted_paper, run_at, run_bytes}",
         "Calls.{reading_call, acknowledge_call, check_call}",
@@ -1877,7 +1877,7 @@ def any_crest(rng):
         Table("inverses", "Inverse", "answer_after place_question", inverses, 20),
         Table("readings", "ReadingAnswer", "answer_after reading_question of_bits", readings_, 10),
         Table("answers-on", "ReadingAnswer", "answer_after reading_question of_bits", on_elements, 10),
-        Table("papers", "Paper_answer", f"paper_after {questions} of_bits", papers, 10),
+        Table("papers", "PaperAnswer", f"paper_after {questions} of_bits", papers, 10),
     ]
     uses = (
         *ELEMENT_USES,
@@ -1891,7 +1891,7 @@ def any_crest(rng):
         "Rattle.std.specs.Float.Ieee.{of_bits}",
         f"Refusals.{{Rule, rule, verdict, {', '.join(REASONS[: len(OWN)])}}}",
         "Crest.{Crest, check_of}",
-        "Answers.{Paper_answer, answer_after, paper_after, asked_paper, placed, located, inverse}",
+        "Answers.{PaperAnswer, answer_after, paper_after, asked_paper, placed, located, inverse}",
         "Answers.{station_question, point_question, place_question}",
         "Readings.{reading_question, answer_on, answer_to}",
     )
@@ -1982,7 +1982,7 @@ def sightings_alone(rng):
         Table("own-refusals", "Outcome", "verdict sight_rules", rules),
         Table("questions", "Placed", "sight_question", found[1::2]),
         Table("question-answers", "Placed", "answer_after sight_question", answered),
-        Table("question-papers", "Paper_answer", "paper_after sight_question", papers[::2]),
+        Table("question-papers", "PaperAnswer", "paper_after sight_question", papers[::2]),
     ]
 
 
@@ -2009,7 +2009,7 @@ def sighted_moves(rng):
         assert sum(case.due.startswith(f"(paper {number} ") for case in papers) >= len(sizes), number
     return [
         Table("moves", "Move", "answer_after sighted_move_question", moves),
-        Table("move-papers", "Paper_answer", "paper_after sighted_move_question", papers[1::3]),
+        Table("move-papers", "PaperAnswer", "paper_after sighted_move_question", papers[1::3]),
         Table("move-calls", "ℕ × List ℕ", "sighting_stake_out_call", calls),
     ]
 
@@ -2083,7 +2083,7 @@ def sighted_answers(rng, named):
     assert returned == counted | {(number, refused) for number in (16, 18) for refused in (False, True)}, returned
     return [
         Table("answers", "ReadingAnswer", SIGHTED, answered, 20),
-        Table("papers", "Paper_answer", "paper_after sighting_question", papers, 10),
+        Table("papers", "PaperAnswer", "paper_after sighting_question", papers, 10),
         Table("displays", "Display", f"display_of of_int div of_bits {SIGHTED}", displays, 10),
         Table("answer-calls", "ℕ × List ℕ", f"reading_call {SIGHTED}", calls, 20),
     ]
@@ -2110,7 +2110,7 @@ def observed_answers(rng, named):
     tables = [
         Table("observed", "ReadingAnswer", OBSERVED, observed, 10),
         Table("observed-on", "ReadingAnswer", OBSERVED, observed_on[::2], 10),
-        Table("observed-papers", "Paper_answer", "paper_after observed_question of_bits", papers[1::2], 10),
+        Table("observed-papers", "PaperAnswer", "paper_after observed_question of_bits", papers[1::2], 10),
         Table("observed-counts", "ℕ", "observed_count of_bits", counts[::2]),
     ]
     for table in tables:  # both sorts, also where every third is left
@@ -2311,7 +2311,7 @@ def sightings(rng):
         "Rattle.std.specs.Float.Ieee.{of_bits, of_int, div}",
         f"Refusals.{{Rule, rule, verdict, {', '.join(REASONS[: len(OWN)])}}}",
         "Crest.{Crest}",
-        "Answers.{Paper_answer, answer_of, answer_after, paper_after, asked_paper}",
+        "Answers.{PaperAnswer, answer_of, answer_after, paper_after, asked_paper}",
         "Readings.{display_of}",
         "Sightings.{turned_of, sighted_of, is_sight, sight_rules, sight_question, sighting_question, sighted_on, sighted_to}",
         "Sightings.{observed_question, observed_to, observed_count, sighted_move_question, sighted_move}",

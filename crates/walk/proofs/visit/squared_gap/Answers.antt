@@ -15,10 +15,10 @@ use Rattle.integers.proofs.Held.{held}
 use Rattle.model.specs.Acceptance.{frame}
 use Rattle.elements.specs.Extent.{widest_position}
 use Rattle.walk.specs.Search.{widest_square}
-use Rattle.walk.proofs.visit.squared_gap.Statement.{statement}
-use Rattle.walk.proofs.visit.squared_gap.Tie as tie
+use Rattle.walk.proofs.visit.squared_gap.Goals.{Start}
+use Rattle.walk.proofs.visit.squared_gap.Goals as goal
 
-module _ (c : tie.Start) where
+module _ (c : Start) where
   abbrev Γ : Env
   Γ = env (c.args.a ∷ c.args.b ∷ []) (frame ∷ widest_position ∷ []) (c.requires.0, (c.requires.1, tt))
 
@@ -36,17 +36,14 @@ module _ (c : tie.Start) where
       let g : nat_abs gap ≤ frame + widest_position = omega (arith, nat_abs-- c.args.a c.args.b) in
       omega (arith, mul-le-mul g g)
 
-sub_d : tie.Need-overflow-sub-d
-sub_d c = fits_machine (Γ c) (search machine depth 20) tt
+pub overflow_sub-d : goal.overflow_sub-d
+overflow_sub-d c = fits_machine (Γ c) (search machine depth 20) tt
 
-mul_result : tie.Need-overflow-mul-result
-mul_result c = fits_machine (Γ c) (search machine depth 20) tt
+pub overflow_mul-result : goal.overflow_mul-result
+overflow_mul-result c = fits_machine (Γ c) (search machine depth 20) tt
 
-cast_result : tie.Need-overflow-cast-result
-cast_result c = subst (λ (z : ℤ). T (non_neg z) × Fits w64 (nat_abs z)) (sym (is_square c)) (tt, record { fits = omega (arith, square_small c) })
+pub overflow_cast-result : goal.overflow_cast-result
+overflow_cast-result c = subst (λ (z : ℤ). T (non_neg z) × Fits w64 (nat_abs z)) (sym (is_square c)) (tt, record { fits = omega (arith, square_small c) })
 
-returns : tie.Need-returns
-returns c = let e = ap nat_abs (is_square c) in (e, omega (arith, e, square_small c))
-
-pub squared_gap_spec : {M : Type 1} → statement M
-squared_gap_spec = tie.close (tie.spec sub_d mul_result cast_result returns)
+pub returns : goal.returns
+returns c = let e = ap nat_abs (is_square c) in record { value = e; small = omega (arith, e, square_small c) }

@@ -5,6 +5,7 @@ use Prim.Native.Nat.{◌^◌}
 use native.Mathlib.Nat.{le_of_lt}
 use lib.IntN.{ℤ, pos, ◌+ℤ◌, ◌-ℤ◌, ◌*ℤ◌}
 use mir.Facts.{to_z-of_z}
+use mir.Syntax.{w64}
 use Rattle.integers.proofs.Machine.{Env, env, machine, fits_machine, by_machine, abs_machine}
 use Rattle.integers.proofs.Held.{held}
 use Rattle.model.specs.declared.Point.{Point}
@@ -16,8 +17,7 @@ use Rattle.elements.specs.declared.Placement.{Placement}
 use Rattle.elements.specs.Extent.{widest_position, Placeable}
 use Rattle.plane.specs.Frame.{InFrame}
 use Rattle.nearest.specs.Sides.{sides_of}
-use Rattle.nearest.proofs.sides.to_point.Statement.{statement}
-use Rattle.nearest.proofs.sides.to_point.Tie as tie
+use Rattle.nearest.proofs.sides.to_point.Goals as goal
 
 module _ (at : Placement) (q : Point) (placeable : Placeable at) (inside : InFrame q) where
   abbrev Γ : Env
@@ -56,32 +56,28 @@ module _ (at : Placement) (q : Point) (placeable : Placeable at) (inside : InFra
   offset_is : held at.tx *ℤ dy +ℤ held at.ty *ℤ held (pos 0 -ℤ dx) ≡ at.tx *ℤ (q.y -ℤ at.y) -ℤ at.ty *ℤ (q.x -ℤ at.x)
   offset_is = by_machine Γ (search machine depth 20 fits 5000) (search machine depth 20) tt
 
-sub_dx : tie.Need-overflow-sub-dx
-sub_dx c = let s = c.before.before.before.before in fits_machine (Γ s.args.at s.args.q s.requires.0 s.requires.1) (search machine depth 20) tt
+pub overflow_sub-dx : goal.overflow_sub-dx
+overflow_sub-dx c = let s = c in fits_machine (Γ s.args.at s.args.q s.requires.placeable s.requires.in_frame) (search machine depth 20) tt
 
-sub_dy : tie.Need-overflow-sub-dy
-sub_dy c = let s = c.before.before.before.before.before.before.before.before in fits_machine (Γ s.args.at s.args.q s.requires.0 s.requires.1) (search machine depth 20) tt
+pub overflow_sub-dy : goal.overflow_sub-dy
+overflow_sub-dy c = let s = c in fits_machine (Γ s.args.at s.args.q s.requires.placeable s.requires.in_frame) (search machine depth 20) tt
 
-near_sum_requires : tie.Need-near-sum-requires
-near_sum_requires c κs = let s = c.before.before.before.before.before.before.before.before.before.before in residual_asks s.args.at s.args.q s.requires.0 s.requires.1
+pub near_sum-requires : goal.near_sum-requires
+near_sum-requires c = let s = c in residual_asks s.args.at s.args.q s.requires.placeable s.requires.in_frame
 
-sub_near_sum : tie.Need-overflow-sub-near-sum
-sub_near_sum c = let s = c.before.before.before.before.before.before.before.before.before.before.before in fits_machine (Γ s.args.at s.args.q s.requires.0 s.requires.1) (search machine depth 20) tt
+pub overflow_sub-dx-2 : goal.overflow_sub-dx-2
+overflow_sub-dx-2 c = let s = c in fits_machine (Γ s.args.at s.args.q s.requires.placeable s.requires.in_frame) (search machine depth 20) tt
 
-near_sum_requires_2 : tie.Need-near-sum-requires-2
-near_sum_requires_2 c κs = let s = c.before.before.before.before.before.before.before.before.before.before.before.before.before in offset_asks s.args.at s.args.q s.requires.0 s.requires.1
+pub near_sum-requires-2 : goal.near_sum-requires-2
+near_sum-requires-2 c = let s = c in offset_asks s.args.at s.args.q s.requires.placeable s.requires.in_frame
 
-returns : tie.Need-returns
+pub returns : goal.returns
 unfolding sides_of residual_of offset_of minus
 returns c =
-    let first = c.before.before.before in
-    let s = first.before.before.before.before.before.before.before.before.before.before.before in
+    let first = c in
+    let s = first in
     let at = s.args.at in
     let q = s.args.q in
     ap₂ (λ (a b : ℤ). record { residual = a; offset = b })
-    (to_z-of_z (record { sfits = first.near-sum.type-inv }) ∙ first.near-sum.ensures ∙ ap (λ (z : ℤ). near z ONE) (residual_is at q s.requires.0 s.requires.1))
-    (to_z-of_z (record { sfits = c.near-sum2.type-inv }) ∙ c.near-sum2.ensures ∙ ap (λ (z : ℤ). near z ONE) (offset_is at q s.requires.0 s.requires.1))
-
-pub to_point_spec : {M : Type 1} → statement M
-to_point_spec =
-    tie.close (tie.spec sub_dx sub_dy near_sum_requires sub_near_sum near_sum_requires_2 returns)
+    (to_z-of_z {w = w64} (record { sfits = first.near_sum.type_inv }) ∙ first.near_sum.ensures ∙ ap (λ (z : ℤ). near z ONE) (residual_is at q s.requires.placeable s.requires.in_frame))
+    (to_z-of_z {w = w64} (record { sfits = c.near_sum-2.type_inv }) ∙ c.near_sum-2.ensures ∙ ap (λ (z : ℤ). near z ONE) (offset_is at q s.requires.placeable s.requires.in_frame))

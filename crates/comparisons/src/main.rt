@@ -135,13 +135,7 @@ fn cut(run: Run) -> Step {
 }
 
 // Reads the rest of a row that compares.
-fn compared<R: Read>(
-    input: &mut R,
-    sort: u8,
-    part: &[u8],
-    bytes: &mut [u8],
-    run: Run,
-) -> Step {
+fn compared<R: Read>(input: &mut R, sort: u8, part: &[u8], bytes: &mut [u8], run: Run) -> Step {
     let n = size(sort);
     if n == 0 {
         return cut(run);

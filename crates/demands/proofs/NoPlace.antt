@@ -46,7 +46,7 @@ lacks_at_0 : {n : ℕ} {rs : List Rule} → Lacks n rs → At0 n rs
 lacks_at_0 empty = none
 lacks_at_0 (other h l) = next (λ e. absurd (h e)) (lacks_at_0 l)
 
-given_at_0 : {rs : List Rule} {w : Refusal} → At0 w.number rs → verdict rs ≡ Refused w → w.place ≡ 0
+given_at_0 : {w : Refusal} {rs : List Rule} → At0 w.number rs → verdict rs ≡ Refused w → w.place ≡ 0
 unfolding verdict or_refused refusal
 given_at_0 none e = clash cc
 given_at_0 {w} (next {r} {rs} h k) e = go (given_at_0 k) r.holds e

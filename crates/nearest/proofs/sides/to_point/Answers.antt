@@ -57,27 +57,25 @@ module _ (at : Placement) (q : Point) (placeable : Placeable at) (inside : InFra
   offset_is = by_machine Γ (search machine depth 20 fits 5000) (search machine depth 20) tt
 
 pub overflow_sub-dx : goal.overflow_sub-dx
-overflow_sub-dx c = let s = c in fits_machine (Γ s.args.at s.args.q s.requires.placeable s.requires.in_frame) (search machine depth 20) tt
+overflow_sub-dx c = fits_machine (Γ c.args.at c.args.q c.requires.placeable c.requires.in_frame) (search machine depth 20) tt
 
 pub overflow_sub-dy : goal.overflow_sub-dy
-overflow_sub-dy c = let s = c in fits_machine (Γ s.args.at s.args.q s.requires.placeable s.requires.in_frame) (search machine depth 20) tt
+overflow_sub-dy c = fits_machine (Γ c.args.at c.args.q c.requires.placeable c.requires.in_frame) (search machine depth 20) tt
 
 pub near_sum-requires : goal.near_sum-requires
-near_sum-requires c = let s = c in residual_asks s.args.at s.args.q s.requires.placeable s.requires.in_frame
+near_sum-requires c = residual_asks c.args.at c.args.q c.requires.placeable c.requires.in_frame
 
 pub overflow_sub-dx-2 : goal.overflow_sub-dx-2
-overflow_sub-dx-2 c = let s = c in fits_machine (Γ s.args.at s.args.q s.requires.placeable s.requires.in_frame) (search machine depth 20) tt
+overflow_sub-dx-2 c = fits_machine (Γ c.args.at c.args.q c.requires.placeable c.requires.in_frame) (search machine depth 20) tt
 
 pub near_sum-requires-2 : goal.near_sum-requires-2
-near_sum-requires-2 c = let s = c in offset_asks s.args.at s.args.q s.requires.placeable s.requires.in_frame
+near_sum-requires-2 c = offset_asks c.args.at c.args.q c.requires.placeable c.requires.in_frame
 
 pub returns : goal.returns
 unfolding sides_of residual_of offset_of minus
 returns c =
-    let first = c in
-    let s = first in
-    let at = s.args.at in
-    let q = s.args.q in
+    let at = c.args.at in
+    let q = c.args.q in
     ap₂ (λ (a b : ℤ). record { residual = a; offset = b })
-    (to_z-of_z {w = w64} (record { sfits = first.near_sum.type_inv }) ∙ first.near_sum.ensures ∙ ap (λ (z : ℤ). near z ONE) (residual_is at q s.requires.placeable s.requires.in_frame))
-    (to_z-of_z {w = w64} (record { sfits = c.near_sum-2.type_inv }) ∙ c.near_sum-2.ensures ∙ ap (λ (z : ℤ). near z ONE) (offset_is at q s.requires.placeable s.requires.in_frame))
+    (to_z-of_z {w = w64} (record { sfits = c.near_sum.type_inv }) ∙ c.near_sum.ensures ∙ ap (λ (z : ℤ). near z ONE) (residual_is at q c.requires.placeable c.requires.in_frame))
+    (to_z-of_z {w = w64} (record { sfits = c.near_sum-2.type_inv }) ∙ c.near_sum-2.ensures ∙ ap (λ (z : ℤ). near z ONE) (offset_is at q c.requires.placeable c.requires.in_frame))

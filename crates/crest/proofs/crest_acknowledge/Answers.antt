@@ -12,10 +12,6 @@ returns-then-len-ne-RUN_SIZE c = sym (acknowledge_18 c.args.run.now c.if-len-ne-
 
 pub returns : goal.returns
 returns c =
-    let p = c in
-    let a = p in
-    let r = a in
-    let e = r in
-    let run = e.args.run.now in
-    ap (λ (l : List ℕ). (0, l)) (p.put_run.ensures ∙ ap (λ (s : Run). run_bytes s run) (a.acknowledge-cleared.ensures ∙ ap acknowledged r.run_at-state.ensures))
-    ∙ sym (acknowledge_0 run e.if-len-ne-RUN_SIZE.false)
+    let run = c.args.run.now in
+    ap (λ (l : List ℕ). (0, l)) (c.put_run.ensures ∙ ap (λ (s : Run). run_bytes s run) (c.acknowledge-cleared.ensures ∙ ap acknowledged c.run_at-state.ensures))
+    ∙ sym (acknowledge_0 run c.if-len-ne-RUN_SIZE.false)

@@ -9,10 +9,7 @@ use Rattle.crest.proofs.crest_sighting_reading.Goals as goal
 
 pub returns : goal.returns
 returns c =
-    let n = c in
-    let k = n in
-    let s = k.before.before.before in
-    let f = s.ranges in
-    n.note_sighting.ensures
-    ∙ ap (λ (x : Sighting). reading_call (sighted_to (file_crest s.args.crest.now) x) s.args.run.now)
-    (k.sighting_of.ensures ∙ sighting_came f.station_x f.station_y f.backsight_c f.backsight_s f.angle_c f.angle_s f.distance)
+    let f = c.ranges in
+    c.note_sighting.ensures
+    ∙ ap (λ (x : Sighting). reading_call (sighted_to (file_crest c.args.crest.now) x) c.args.run.now)
+    (c.sighting_of.ensures ∙ sighting_came f.station_x f.station_y f.backsight_c f.backsight_s f.angle_c f.angle_s f.distance)

@@ -27,7 +27,9 @@ module _ (s : Start) where
   room = s.args.move_bytes.now
 
 pub returns-then-room-ne-MOVE_SIZE : goal.returns-then-room-ne-MOVE_SIZE
-returns-then-room-ne-MOVE_SIZE c = let s = c.before.before in sym (sighted_18 (sighting (goal.at.returns-then-room-ne-MOVE_SIZE c).Start) (target (goal.at.returns-then-room-ne-MOVE_SIZE c).Start) (room (goal.at.returns-then-room-ne-MOVE_SIZE c).Start) c.if-room-ne-MOVE_SIZE.true)
+returns-then-room-ne-MOVE_SIZE c =
+    let s = (goal.at.returns-then-room-ne-MOVE_SIZE c).Start in
+    sym (sighted_18 (sighting s) (target s) (room s) c.if-room-ne-MOVE_SIZE.true)
 
 module _ (c : After-stake_out-answer) where
   abbrev start : Start
@@ -35,18 +37,18 @@ module _ (c : After-stake_out-answer) where
 
   moved : c.stake_out-answer.result ≡ sighted_move (sighting start) (target start)
   moved =
-      let f = start.ranges in
+      let f = c.ranges in
       c.stake_out-answer.ensures.value
       ∙ ap₂ (λ (k : Sighting) (p : Point). sighted_move k p) (c.sighting_of-sighting.ensures ∙ sighting_came f.station_x f.station_y f.backsight_c f.backsight_s f.angle_c f.angle_s f.distance) (as_came f.target_x f.target_y c.point.ensures)
 
 pub answer_move-requires : goal.answer_move-requires
 answer_move-requires c =
-    let k = (goal.at.answer_move-requires c).After-stake_out-answer in record { room_len = search rules; movable = subst Movable (sym (moved k)) (sighted_movable (sighting (start k)) (target (start k))) }
+    let k = (goal.at.answer_move-requires c).After-stake_out-answer in
+    record { room_len = search rules; movable = subst Movable (sym (moved k)) (sighted_movable (sighting (start k)) (target (start k))) }
 
 pub returns : goal.returns
 returns c =
-    let m = c in
     let k = (goal.at.returns c).After-stake_out-answer in
     let s = start k in
-    ap₂ (λ (r : ℕ) (l : List ℕ). (r, l)) (m.answer_move.ensures.value ∙ ap (λ (x : Move). code (paper_of_move x)) (moved k)) (m.answer_move.ensures.room_after ∙ ap (λ (x : Move). move_bytes x (room s)) (moved k))
+    ap₂ (λ (r : ℕ) (l : List ℕ). (r, l)) (c.answer_move.ensures.value ∙ ap (λ (x : Move). code (paper_of_move x)) (moved k)) (c.answer_move.ensures.room_after ∙ ap (λ (x : Move). move_bytes x (room s)) (moved k))
     ∙ sym (sighted_answered (sighting s) (target s) (room s) c.if-room-ne-MOVE_SIZE.false)

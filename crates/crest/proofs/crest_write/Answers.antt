@@ -12,9 +12,8 @@ use Rattle.crest.proofs.crest_write.Goals as goal
 
 pub outcome_code-requires : goal.outcome_code-requires
 outcome_code-requires c =
-    let w = c in
-    let a = w.args in
-    subst (λ (o : Outcome). Codable (paper_of_outcome o)) (sym w.write-written.ensures.value) (writer_codable a.records.now (length a.room.now))
+    let a = c.args in
+    subst (λ (o : Outcome). Codable (paper_of_outcome o)) (sym c.write-written.ensures.value) (writer_codable a.records.now (length a.room.now))
 
 pub returns : goal.returns
 unfolding write_call

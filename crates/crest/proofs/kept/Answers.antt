@@ -11,21 +11,18 @@ use Rattle.crest.proofs.kept.Goals.{After-count_answer-noted}
 use Rattle.crest.proofs.kept.Goals as goal
 
 pub count_answer-noted-requires : goal.count_answer-noted-requires
-count_answer-noted-requires c = let s = c in record { run_value = rw c.run_at-state.ensures s.requires.run_value; storable = s.requires.storable }
+count_answer-noted-requires c = record { run_value = rw c.run_at-state.ensures c.requires.run_value; storable = c.requires.storable }
 
 -- what is counted
-told : (c : After-count_answer-noted) → let s = c in
-    c.count_answer-noted.result ≡ record { answer = s.args.answer; run = counted (shown_of s.args.answer) (run_at s.args.run.now) }
+told : (c : After-count_answer-noted) → c.count_answer-noted.result ≡ record { answer = c.args.answer; run = counted (shown_of c.args.answer) (run_at c.args.run.now) }
 told c =
-    let s = c in
     c.count_answer-noted.ensures.value
-    ∙ ap (λ (r : Run). noted s.args.answer r) c.run_at-state.ensures
-    ∙ noted_counted s.args.answer (run_at s.args.run.now) s.requires.run_value
+    ∙ ap (λ (r : Run). noted c.args.answer r) c.run_at-state.ensures
+    ∙ noted_counted c.args.answer (run_at c.args.run.now) c.requires.run_value
 
 pub returns : goal.returns
 returns c =
-    let p = c in
-    let n = p.before.before.before in
-    let s = n in
-    ap₂ (λ (r : ℕ) (l : List ℕ). (r, l)) c.answer_code.ensures (p.put_run.ensures ∙ ap (λ (x : Noted). run_bytes x.run s.args.run.now) (told (goal.at.returns c).After-count_answer-noted))
-    ∙ sym (reading_counted s.args.answer s.args.run.now s.requires.run_len s.requires.run_value)
+    let n = (goal.at.returns c).After-count_answer-noted in
+    let run = c.args.run.now in
+    ap₂ (λ (r : ℕ) (l : List ℕ). (r, l)) c.answer_code.ensures (c.put_run.ensures ∙ ap (λ (x : Noted). run_bytes x.run run) (told n))
+    ∙ sym (reading_counted c.args.answer run c.requires.run_len c.requires.run_value)

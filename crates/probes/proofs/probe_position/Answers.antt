@@ -10,7 +10,7 @@ use Rattle.probes.specs.Replies.{reply_of_placed}
 use Rattle.probes.proofs.Rooms.{position_18, position_call_sent, sent_as}
 use Rattle.probes.proofs.Sent.{same_sendable, placed_sendable}
 use borrow.Author.Rules.{rules}
-use Rattle.probes.proofs.probe_position.Goals.{After-reply_of_placed, Else-out-ne-FOUR_SIZE, Start}
+use Rattle.probes.proofs.probe_position.Goals.{After-reply_of_placed, Else-out-ne-FOUR_SIZE}
 use Rattle.probes.proofs.probe_position.Goals as goal
 
 pub overflow_cast-station : goal.overflow_cast-station
@@ -25,23 +25,22 @@ module _ (c : After-reply_of_placed) where
   abbrev test : Else-out-ne-FOUR_SIZE
   test = (goal.at.After-reply_of_placed c).Else-out-ne-FOUR_SIZE
 
-  abbrev start : Start
-  start = (goal.at.After-reply_of_placed c).Start
-
   abbrev crest : Crest
-  crest = file_crest start.args.crest.now
+  crest = file_crest c.args.crest.now
 
   abbrev station : ℤ
-  station = pos start.args.station
+  station = pos c.args.station
 
   reply : c.reply_of_placed.result ≡ reply_of_placed (placed crest station)
-  reply = c.reply_of_placed.ensures ∙ ap reply_of_placed (c.position.ensures.value ∙ ap (placed crest) (to_z_pos w64 start.args.station (overflow_cast-station test).sfits))
+  reply = c.reply_of_placed.ensures ∙ ap reply_of_placed (c.position.ensures.value ∙ ap (placed crest) (to_z_pos w64 c.args.station (overflow_cast-station test).sfits))
 
 pub send-requires : goal.send-requires
-send-requires c = let r = (goal.at.send-requires c).After-reply_of_placed in same_sendable (test (goal.at.send-requires c).After-reply_of_placed).if-out-ne-FOUR_SIZE.false (reply r) (placed_sendable (crest r) (file_sound _) (station r))
+send-requires c =
+    let r = (goal.at.send-requires c).After-reply_of_placed in
+    same_sendable c.if-out-ne-FOUR_SIZE.false (reply r) (placed_sendable (crest r) (file_sound _) (station r))
 
 pub returns : goal.returns
 returns c =
-    let m = c in
     let r = (goal.at.returns c).After-reply_of_placed in
-    sent_as (start r).args.out.now m.send.ensures.value m.send.ensures.room_after (reply r) ∙ sym (position_call_sent (crest r) (start r).args.out.now (test r).if-out-ne-FOUR_SIZE.false (station r))
+    let room = c.args.out.now in
+    sent_as room c.send.ensures.value c.send.ensures.room_after (reply r) ∙ sym (position_call_sent (crest r) room c.if-out-ne-FOUR_SIZE.false (station r))

@@ -9,23 +9,17 @@ use Rattle.model.specs.Answers.{Span, reader_outcome}
 use Rattle.alignment.proofs.PartOrders.{span_done}
 use Rattle.fields.proofs.Puts.{put_whole}
 use Rattle.probes.proofs.RecordCases.{refusal_codable, copy_room, copy_taken, copy_refused}
-use Rattle.probes.proofs.probe_record.Goals.{After-record_outcome, After-record_part, Start}
+use Rattle.probes.proofs.probe_record.Goals.{After-record_part}
 use Rattle.probes.proofs.probe_record.Goals as goal
 
 pub returns-then-out-ne-RECORD_SIZE : goal.returns-then-out-ne-RECORD_SIZE
 returns-then-out-ne-RECORD_SIZE c = sym (copy_room _ _ _ c.if-out-ne-RECORD_SIZE.true)
 
 module _ (c : After-record_part) where
-  abbrev outcome : After-record_outcome
-  outcome = (goal.at.After-record_part c).After-record_outcome
-
-  abbrev start : Start
-  start = (goal.at.After-record_part c).Start
-
-  done : reader_outcome start.args.crest.now start.args.i ≡ Done
+  done : reader_outcome c.args.crest.now c.args.i ≡ Done
   done = sym c.record_outcome.ensures.value ∙ c.in-Done.is
 
-  sized : length start.args.out.now ≡ 32
+  sized : length c.args.out.now ≡ 32
   sized = c.if-out-ne-RECORD_SIZE.false
 
   -- a record is as long as its room
@@ -40,14 +34,11 @@ code_of-requires c = refusal_codable _ _ (sym c.record_outcome.ensures.value ∙
 
 pub returns-in-Done : goal.returns-in-Done
 returns-in-Done c =
-    let m = c in
     let p = (goal.at.returns-in-Done c).After-record_part in
-    let copied = m.copy_at.ensures ∙ put_whole _ _ (omega (arith, whole p, sized p)) in
-    ap (λ (l : List ℕ). (0, l)) (copied ∙ p.record_part.ensures.result_value) ∙ sym (copy_taken _ _ _ (sized p) (done p))
+    let copied = c.copy_at.ensures ∙ put_whole _ _ (omega (arith, whole p, sized p)) in
+    ap (λ (l : List ℕ). (0, l)) (copied ∙ c.record_part.ensures.result_value) ∙ sym (copy_taken _ _ _ (sized p) (done p))
 
 pub returns-in-Refused : goal.returns-in-Refused
 returns-in-Refused c =
-    let k = c in
-    let o = k in
-    ap (λ (n : ℕ). (n, o.args.out.now)) c.code_of.ensures
-    ∙ sym (copy_refused _ _ _ o.if-out-ne-RECORD_SIZE.false (sym o.record_outcome.ensures.value ∙ k.in-Refused.is))
+    ap (λ (n : ℕ). (n, c.args.out.now)) c.code_of.ensures
+    ∙ sym (copy_refused _ _ _ c.if-out-ne-RECORD_SIZE.false (sym c.record_outcome.ensures.value ∙ c.in-Refused.is))

@@ -1,4 +1,4 @@
-// Exported for measurement: many stations of one element, which is prepared once, and many whole square roots.
+// For measurement: many stations of one element, which is prepared once, and many whole square roots.
 #![tactic(auto)]
 
 ghost use Rattle.std.specs.Prelude.{◌≡◌, ◌*◌, ◌^◌, ◌<◌, ◌≤◌, nat_abs, ◌+ℤ◌};

@@ -145,7 +145,8 @@ pub fn stake_out(sighting: Sighting, target: Point) -> Move
     ensures paper { paper_of_move result ≡ paper_after [] (sighted_move_question sighting target) }
 {
     match sight(sighting) {
-        Placed::Refused(why) => Move::Refused(why),
+        // field by field, as in `sight`
+        Placed::Refused(Refusal { number, place }) => Move::Refused(Refusal { number, place }),
         Placed::At { x, y, tx, ty } => move_back(Point { x, y }, target, tx, ty),
     }
 }

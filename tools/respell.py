@@ -82,6 +82,9 @@ def main():
         words = NAME.findall(bare(t, "--" if p.endswith(".antt") else "//"))
         if p.endswith(".antt"):
             camel.update(it for it in words if is_camel(it) and "Need-" not in it)
+        else:
+            # what a clause's import is called
+            camel.update(re.findall(r"\bas ([a-z]\w*[A-Z]\w*)", t))
     declared -= KEPT
     turned = {}
     for it in sorted(declared | camel):

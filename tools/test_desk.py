@@ -689,8 +689,8 @@ def limits():
 
 def ranges():
     found = limits()
-    same("the limits of docs/RULES.md", (len(found), found["unitSquare"]), (17, 2**60))
-    longest, widest, frame = found["longestElement"], found["widest"], found["frame"]
+    same("the limits of docs/RULES.md", (len(found), found["unit_square"]), (17, 2**60))
+    longest, widest, frame = found["longest_element"], found["widest"], found["frame"]
     for (kind, word), unit, origin in itertools.product(NAMES.items(), ("m", "mm", "grains"), ORIGINS):
         ranges_of(kind, word, unit, origin, longest, widest, frame)
     own_numbers(found)

@@ -5,7 +5,7 @@
 ghost use Rattle.std.specs.Prelude.{[], ◌≡◌, length};
 ghost use Rattle.model.specs.Writer.{writer_outcome, written};
 ghost use Rattle.model.specs.Crest.{file_crest, check_of};
-ghost use Rattle.model.specs.Answers.{paper_if, paper_of_outcome, paper_after, asked_paper, reader_outcome, station_question, placed, paper_of_placed, point_question, located, paper_of_located, place_question, inverse as inverseIn, paper_of_inverse, move_question, stake_out, paper_of_move};
+ghost use Rattle.model.specs.Answers.{paper_if, paper_of_outcome, paper_after, asked_paper, reader_outcome, station_question, placed, paper_of_placed, point_question, located, paper_of_located, place_question, inverse as inverse_in, paper_of_inverse, move_question, stake_out, paper_of_move};
 ghost use Rattle.model.specs.Readings.{paper_of_reading, display_of};
 ghost use Rattle.model.specs.Sightings.{observed_question, observed_to, observed_count, sighted_move_question, sighted_move};
 ghost use Rattle.model.specs.Run.{noted_paper};
@@ -71,7 +71,7 @@ pub fn locate(file: &[u8], q: Point) -> Located
 
 // The point at a station and an offset.
 pub fn inverse(file: &[u8], s: i64, w: i64) -> Inverse
-    ensures value { result ≡ inverseIn (file_crest file.now) s w }
+    ensures value { result ≡ inverse_in (file_crest file.now) s w }
     ensures paper { paper_of_inverse result ≡ asked_paper (place_question s w) (file_crest file.now) }
 {
     questions::inverse(file, no_amendment(file), Form::File, s, w)

@@ -6,7 +6,7 @@ ghost use Rattle.model.specs.Rounding.{ONE, near};
 ghost use Rattle.model.specs.Refusals.{verdict};
 ghost use Rattle.model.specs.Acceptance.{in_frame, is_unit};
 ghost use Rattle.model.specs.Answers.{answer_of, paper_if, paper_after, paper_of_outcome, paper_of_placed, paper_of_move};
-ghost use Rattle.model.specs.Sightings.{turned as turnedBy, is_sight, sight_rules, sight_question, sighted_move_question, sighted_move};
+ghost use Rattle.model.specs.Sightings.{turned as turned_by, is_sight, sight_rules, sight_question, sighted_move_question, sighted_move};
 ghost use Rattle.sightings.specs.SightRanges.{Pair, Along, Sightable, placed_by, Facing, moved_back};
 
 use integers::magnitude;
@@ -68,7 +68,7 @@ pub fn check(sighting: Sighting) -> Outcome
 fn turned(backsight: Point, angle: Point) -> Point
     requires pair { Pair backsight }
     requires pair_2 { Pair angle }
-    ensures { result ≡ turnedBy backsight angle }
+    ensures { result ≡ turned_by backsight angle }
 {
     let b = backsight.x;
     let g = backsight.y;

@@ -1,6 +1,5 @@
 -- `entries::check` meets its contract: a file is one form of a crest.
 use Rattle.model.specs.Acceptance.{crest_rules}
-use Rattle.model.specs.Crest.{}
 use Rattle.sources.specs.Sources.{layout_rules, records_in}
 use Rattle.entries.proofs.check.Goals as goal
 

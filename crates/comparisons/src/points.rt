@@ -3,7 +3,7 @@ ghost use Rattle.std.specs.Prelude.{◌≡◌};
 ghost use Rattle.comparisons.specs.Agreement.{point_says, located_is, point_agrees};
 
 use crate::said::{Row, is_at};
-use fields::eight::{signed, u64_at};
+use fields::eight::u64_at;
 use model::{Located, Point};
 
 // Whether station, offset, residual and visits are the row's.
@@ -39,8 +39,8 @@ pub fn agrees(row: &Row, crest: &[u8]) -> bool
     ensures { result ≡ point_agrees row.now crest.now }
 {
     let p = Point {
-        x: signed(u64_at(row, 0)),
-        y: signed(u64_at(row, 8)),
+        x: u64_at(row, 0).cast_signed(),
+        y: u64_at(row, 8).cast_signed(),
     };
     same(row, entries::locate(crest, p))
 }

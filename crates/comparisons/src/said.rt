@@ -2,7 +2,7 @@
 ghost use Rattle.std.specs.Prelude.{◌≡◌, ◌+◌, ◌≤◌};
 ghost use Rattle.comparisons.specs.Said.{is_at, float_is_at};
 
-use fields::eight::{signed, u64_at};
+use fields::eight::u64_at;
 
 // The bytes after a row's head, and zeros.
 pub type Row = [u8; 124];
@@ -12,7 +12,7 @@ pub fn is_at(row: &Row, at: usize, z: i64) -> bool
     requires { at + 8 ≤ 124 }
     ensures { result ≡ is_at row.now at z }
 {
-    z == signed(u64_at(row, at))
+    z == u64_at(row, at).cast_signed()
 }
 
 // Whether the eight bytes from `at` on are the bits of x; a nan has no bits of its own in the language, and agrees with none.

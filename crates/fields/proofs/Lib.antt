@@ -8,4 +8,3 @@ pub mod PartsOf
 pub mod Rest
 pub mod Zeros
 pub mod Puts
-pub mod Stores

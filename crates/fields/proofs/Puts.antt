@@ -6,7 +6,7 @@ use native.Mathlib.Nat.{add-zero, zero-add}
 use native.Mathlib.Numerals.{add-one}
 use native.Mathlib.Omega.{arith}
 use borrow.Rule.Slice.PartMut.{put_mid}
-use lib.ListN.{length, take, drop, set, replicate, length-append, length-take, length-drop, length-replicate, replicate-append-replicate, take-append-drop, drop_of_length-le}
+use lib.ListN.{length, take, drop, set, length-append, length-take, length-drop, take-append-drop, drop_of_length-le}
 use lib.Seq.{take_at, drop-drop, drop-append-add, set_split, take-suc, length-take-le}
 use Rattle.model.specs.Records.{byte_at, put}
 
@@ -63,9 +63,3 @@ copied_more l at bytes i h fits =
     let n = length-take-le i bytes (omega arith) in
     store_put l at (at + i) (take i bytes) (byte_at bytes i) (omega arith) (omega arith)
     ∙ ap (λ p. put l at p) (rw add-one (sym (take-suc bytes i 0 h)))
-
-pub cleared_more : (l : List ℕ) (at i : ℕ) → at + i < length l → set (put l at (replicate i 0)) (at + i) 0 ≡ put l at (replicate (i + 1) 0)
-cleared_more l at i fits =
-    let n = length-replicate {A = ℕ} i 0 in
-    store_put l at (at + i) (replicate i 0) 0 (omega arith) fits
-    ∙ ap (λ p. put l at p) (replicate-append-replicate i 1 0)

@@ -1,29 +1,20 @@
--- The test of zeros: of the first byte and of the rest after it, as a loop makes it; and of a part, which is then as many zeros as it is long.
-use Prim.Native.Nat.{ℕ, zero, suc, ◌+◌, ◌≤◌, ◌<◌}
-use mathlib.Core.Bool.{true, false, ◌&&◌, and-eq-true_iff}
+-- The test of zeros: as an iterator makes it; and of a part, which is then as many zeros as it is long.
+use Prim.Native.Nat.{ℕ, zero, suc, ◌+◌, ◌≤◌}
+use mathlib.Core.Bool.{true, ◌&&◌, and-eq-true_iff}
 use mathlib.Core.List.{List, [], ◌∷◌}
 use mathlib.Core.Logic.{◌↔◌}
 use mathlib.Core.Path.{◌≡◌, refl, ap}
-use borrow.Author.Tests.{eqb-true, eq-eqb, ne_eqb}
+use borrow.Author.Tests.{eqb-true}
 use lib.Dec.{eqb}
-use lib.ListN.{length, drop, replicate, drop_of_length-le}
-use Rattle.model.specs.Records.{byte_at, part, all_zero}
-use Rattle.fields.proofs.Rest.{first_rest}
+use lib.ListN.{length, replicate}
+use Rattle.std.specs.List.{list_all}
+use Rattle.model.specs.Records.{part, all_zero}
 use Rattle.fields.proofs.PartsOf.{length_part}
 
-zeros_rest : (l : List ℕ) (i : ℕ) → i < length l → all_zero (drop i l) ≡ (eqb (byte_at l i) 0 && all_zero (drop (i + 1) l))
+pub all_zero_all : (l : List ℕ) → list_all (λ b. eqb b 0) l ≡ all_zero l
 unfolding all_zero
-zeros_rest l i h = ap all_zero (first_rest l i h)
-
-pub zero_byte : (l : List ℕ) (i : ℕ) → i < length l → byte_at l i ≡ 0 → all_zero (drop i l) ≡ all_zero (drop (i + 1) l)
-zero_byte l i h e = rw (zeros_rest l i h, eq-eqb (byte_at l i) 0 e)
-
-pub nonzero_byte : (l : List ℕ) (i : ℕ) → i < length l → (byte_at l i ≡ 0 → ⊥) → all_zero (drop i l) ≡ false
-nonzero_byte l i h n = rw (zeros_rest l i h, ne_eqb (byte_at l i) 0 n)
-
-pub no_byte : (l : List ℕ) (i : ℕ) → length l ≤ i → all_zero (drop i l) ≡ true
-unfolding all_zero
-no_byte l i h = rw (drop_of_length-le l {i = i} h)
+all_zero_all [] = refl
+all_zero_all (b ∷ l) = ap (λ r. eqb b 0 && r) (all_zero_all l)
 
 all_zero→zeros : (l : List ℕ) → all_zero l ≡ true → l ≡ replicate (length l) 0
 unfolding all_zero

@@ -1,12 +1,10 @@
 // Little-endian fields of eight bytes.
-ghost use Rattle.std.specs.Prelude.{◌≡◌, ◌+◌, ◌*◌, ◌≤◌, ◌<◌, length};
+ghost use Rattle.std.specs.Prelude.{◌≡◌, ◌+◌, ◌*◌, ◌≤◌, length};
 ghost use Rattle.std.specs.Float.{binary64};
 ghost use Rattle.std.specs.Float.Ieee.{of_bits};
-ghost use Rattle.std.specs.Int.{w64};
-ghost use Rattle.std.proofs.Common.{to_z};
 ghost use Rattle.model.specs.Records.{u32_at};
 
-use crate::u32_at;
+use crate::bytes_at;
 
 // The highest bit: of an i64 and of an f64 its sign.
 pub const SIGN: u64 = 1 << 63;
@@ -16,31 +14,12 @@ pub const FRACTION: u64 = 1 << 52;
 
 pub const NOT_FINITE: u64 = 2047;
 
-// A half, wide.
-fn wide(x: u32) -> u64
-    ensures value { result ≡ x }
-    ensures upper_bound { result < 4294967296 }
-{
-    x as u64
-}
-
 // The u64 in the eight bytes from `at` on.
 pub fn u64_at(s: &[u8], at: usize) -> u64
     requires { at + 8 ≤ length s.now }
     ensures { result ≡ u32_at s.now at + 4294967296 * u32_at s.now (at + 4) }
 {
-    wide(u32_at(s, at)) + 4294967296 * wide(u32_at(s, at + 4))
-}
-
-// Two's complement: the i64 with these bits.
-pub fn signed(bits: u64) -> i64
-    ensures { result ≡ to_z w64 bits }
-{
-    if bits < SIGN {
-        bits as i64
-    } else {
-        !((!bits) as i64)
-    }
+    u64::from_le_bytes(bytes_at(s, at))
 }
 
 // The f64 with these bits. The language makes no float of a nan's bits: there it is 0 / 0.

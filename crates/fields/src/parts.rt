@@ -16,10 +16,9 @@ pub fn copy_at(room: &mut [u8], at: usize, bytes: &[u8])
     requires { at + length bytes.now ≤ length room.old }
     ensures { room.new ≡ put room.old at bytes.now }
 {
-    let mut i = 0;
-    while i < bytes.len() {
-        room[at + i] = bytes[i];
-        i += 1;
+    // No copy_from_slice: it is memmove in machine code, and crest.h names memcpy and memset alone.
+    for (i, b) in bytes.iter().enumerate() {
+        room[at + i] = *b;
     }
 }
 
@@ -28,23 +27,12 @@ pub fn clear_at(room: &mut [u8], at: usize, n: usize)
     requires { at + n ≤ length room.old }
     ensures { room.new ≡ put room.old at (replicate n 0) }
 {
-    let mut i = 0;
-    while i < n {
-        room[at + i] = 0;
-        i += 1;
-    }
+    room[at..at + n].fill(0);
 }
 
 // Whether all bytes are zero.
 pub fn all_zero(s: &[u8]) -> bool
     ensures { result ≡ all_zero s.now }
 {
-    let mut i = 0;
-    while i < s.len() {
-        if s[i] != 0 {
-            return false;
-        }
-        i += 1;
-    }
-    true
+    s.iter().all(|b| *b == 0)
 }

@@ -1,25 +1,15 @@
--- `fields::parts::clear_at` meets its contract. The loop's invariant: `i` zeros are put.
-use Prim.Native.Nat.{◌+◌}
-use mathlib.Core.Path.{◌≡◌, refl, sym, ap, ◌∙◌}
-use native.Mathlib.Omega.{arith}
-use lib.ListN.{set, length-set}
-use Rattle.fields.proofs.Puts.{put_none, cleared_more}
+-- `fields::parts::clear_at` meets its contract: the lent part comes back as zeros.
+use mathlib.Core.Path.{ap, ◌∙◌}
+use Prim.Native.Nat.{ℕ}
+use lib.ListN.{length, replicate, length-replicate}
+use Rattle.model.specs.Records.{put}
+use Rattle.fields.proofs.PartsOf.{lent_length}
+use Rattle.fields.proofs.Puts.{lent_back}
 use Rattle.fields.proofs.parts.clear_at.Goals as goal
-
-pub loop-i-init : goal.loop-i-init
-loop-i-init c = (omega arith, refl, sym (put_none _ _))
-
-pub loop-i-preserved : goal.loop-i-preserved
-loop-i-preserved c =
-    let l = c.loop-i in
-    let a = c.args in
-    (omega arith, rw length-set l.invariant.1, ap (λ x. set x (a.at + l.i) 0) l.invariant.2 ∙ cleared_more _ a.at l.i (omega arith))
-
-pub shape_of-room : goal.shape_of-room
-shape_of-room c = c.loop-i.invariant.1
 
 pub returns : goal.returns
 returns c =
-    let l = c.loop-i in
-    let e : l.i ≡ c.args.n = omega arith in
-    rw (← e) l.invariant.2
+    let a = c.args in
+    let n = lent_length a.room.now a.at a.n c.requires in
+    let e = c.fill.ensures.after (λ y h. h) ∙ ap (λ (k : ℕ). replicate k 0) n in
+    lent_back a.room.now a.at a.n _ (ap length e ∙ length-replicate a.n 0) ∙ ap (λ p. put a.room.now a.at p) e

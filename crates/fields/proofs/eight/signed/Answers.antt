@@ -1,9 +1,0 @@
--- `fields::eight::signed` meets its contract: the complement of the complement is the number itself.
-use mathlib.Core.Path.{ap}
-use mir.Syntax.{w64}
-use mir.Val.{to_z}
-use Rattle.integers.proofs.Signed.{complement_twice}
-use Rattle.fields.proofs.eight.signed.Goals as goal
-
-pub returns-else-bits-lt-SIGN : goal.returns-else-bits-lt-SIGN
-returns-else-bits-lt-SIGN c = ap (to_z w64) (complement_twice w64 c.ranges.bits)

@@ -10,10 +10,10 @@ returns c =
     rw (
       c.same.ensures,
       c.locate.ensures.value,
-      to_z-of_z w64 c.signed.result (record { sfits = c.signed.type_inv }),
-      to_z-of_z w64 c.signed-2.result (record { sfits = c.signed-2.type_inv }),
-      c.signed.ensures,
+      to_z-of_z w64 c.cast_signed.result (record { sfits = c.cast_signed.type_inv }),
+      to_z-of_z w64 c.cast_signed-2.result (record { sfits = c.cast_signed-2.type_inv }),
+      c.cast_signed.ensures,
       c.u64_at.ensures,
-      c.signed-2.ensures,
+      c.cast_signed-2.ensures,
       c.u64_at-2.ensures,
     )

@@ -8,4 +8,4 @@ use Rattle.comparisons.proofs.said.is_at.Goals as goal
 
 pub returns : goal.returns
 returns c =
-    ap (eqb (of_z w64 c.args.z)) (ap (of_z w64) c.signed.ensures ∙ of_z-to_z {w = w64} (record { fits = c.u64_at.type_inv }) ∙ c.u64_at.ensures)
+    ap (eqb (of_z w64 c.args.z)) (ap (of_z w64) c.cast_signed.ensures ∙ of_z-to_z {w = w64} (record { fits = c.u64_at.type_inv }) ∙ c.u64_at.ensures)

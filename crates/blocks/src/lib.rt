@@ -2,7 +2,7 @@
 #![tactic(auto)]
 
 ghost use Rattle.std.specs.Prelude.{◌++◌, ◌≡◌, ◌≤◌, ◌<◌, length, IsTrue};
-ghost use Rattle.model.specs.Records.{per_block, records_end, sums_at, put, u16_bytes, sum_a, sum_b};
+ghost use Rattle.model.specs.Records.{block_size, per_block, records_end, sums_at, put, u16_bytes, sum_a, sum_b};
 ghost use Rattle.model.specs.Acceptance.{sums_agree, use_fits, fields_fit};
 ghost use Rattle.model.specs.Writer.{block_body, block};
 
@@ -20,7 +20,8 @@ struct Sums {
 }
 
 // The sums of bytes 0 to 507: A adds them up, and B counts byte i 508 - i times.
-fn sums_of(block: &[u8; BLOCK_SIZE]) -> Sums
+fn sums_of(block: &[u8]) -> Sums
+    requires { sums_at ≤ length block.now }
     ensures { (result.a ≡ sum_a block.now) × (result.b ≡ sum_b block.now) }
 {
     let mut a: usize = 0;
@@ -74,7 +75,8 @@ pub fn fields_fit(n: usize, b: usize, block: &[u8; BLOCK_SIZE]) -> bool
 }
 
 // Bytes 0 to 507 of block b: its records, zeros up to 480, the block's fields, zeros.
-fn write_body(room: &mut [u8; BLOCK_SIZE], b: usize, records: &[u8])
+fn write_body(room: &mut [u8], b: usize, records: &[u8])
+    requires room_len { length room.old ≡ block_size }
     requires records_len_bound { length records.now ≤ records_end }
     requires b_bound { b < 65536 }
     ensures { room.new ≡ put room.old 0 (block_body b records.now) }
@@ -89,7 +91,8 @@ fn write_body(room: &mut [u8; BLOCK_SIZE], b: usize, records: &[u8])
 }
 
 // The two sums of bytes 0 to 507, after them.
-fn write_sums(room: &mut [u8; BLOCK_SIZE])
+fn write_sums(room: &mut [u8])
+    requires { length room.old ≡ block_size }
     ensures { room.new ≡ put room.old sums_at (u16_bytes (sum_a room.old) ++ u16_bytes (sum_b room.old)) }
 {
     let s = sums_of(room);
@@ -97,8 +100,10 @@ fn write_sums(room: &mut [u8; BLOCK_SIZE])
     fields::put_u16(room, SUM_B_AT, s.b);
 }
 
-// Block b of these records, 15 at most.
-pub fn write_block(room: &mut [u8; BLOCK_SIZE], b: usize, records: &[u8])
+// Block b of these records, 15 at most. The room is a part of the file's, and no array: of what is lent through `as_mut_array` and unwrapped, a
+// proof knows the length only.
+pub fn write_block(room: &mut [u8], b: usize, records: &[u8])
+    requires room_len { length room.old ≡ block_size }
     requires records_len_bound { length records.now ≤ records_end }
     requires b_bound { b < 65536 }
     ensures { room.new ≡ block b records.now }

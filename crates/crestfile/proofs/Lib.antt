@@ -1,5 +1,6 @@
 -- The crest file: the rules of its blocks and records, and what a file that they accept is.
 pub mod Seams
+mod Chunks
 pub mod Blocks
 pub mod SoundFile
 pub mod WriterRules

@@ -4,8 +4,8 @@ use mathlib.Core.List.{List, [], ◌++◌, append_assoc, append-nil}
 use mathlib.Core.Path.{◌≡◌, refl, sym, ap, ◌∙◌}
 use native.Mathlib.Decide.{dec_le}
 use native.Mathlib.Omega.{arith}
-use lib.ListN.{length, take, drop, length-append, length-drop, length-take}
-use lib.Seq.{drop-drop, take_all, take-length}
+use lib.ListN.{length, take, drop, length-append, length-drop, length-take, drop_of_length-le}
+use lib.Seq.{drop-drop, take_all, take-length, take_at, drop_at}
 use Rattle.model.specs.Records.{put}
 use Rattle.model.specs.Writer.{block, blocks_from, blocks_needed, file_of}
 use Rattle.blocks.proofs.OneBlock.{block_length}
@@ -20,12 +20,23 @@ take_min n l = go (dec_le n (length l))
         let e : min n (length l) ≡ length l = omega arith in
         rw (e, take-length l, take_all n l (omega arith))
 
--- a block's records where they end at 480 bytes or with the last record
-pub block_part : (records : List ℕ) (from to : ℕ) → to ≡ min (from + 480) (length records) → from ≤ length records → take (to - from) (drop from records) ≡ take 480 (drop from records)
-block_part records from to e h =
-    let n = length-drop from records in
-    let i : to - from ≡ min 480 (length (drop from records)) = rw n (omega arith) in
-    rw i (take_min 480 (drop from records))
+drop_min : (n : ℕ) (l : List ℕ) → drop (min n (length l)) l ≡ drop n l
+drop_min n l = go (dec_le n (length l))
+  where
+    go : Dec (n ≤ length l) → drop (min n (length l)) l ≡ drop n l
+    go (yes h) = let e : min n (length l) ≡ n = omega arith in rw e
+    go (no h) =
+        let e : min n (length l) ≡ length l = omega arith in
+        rw (e, drop_of_length-le l {i = length l} (omega arith), drop_of_length-le l {i = n} (omega arith))
+
+-- a block's records, as the records are cut into them: up to 480 bytes off the front of what is left
+pub next_chunk : (records part after : List ℕ) (b : ℕ) → drop (480 * b) records ≡ part ++ after → length part ≡ min 480 (length (drop (480 * b) records)) → (part ≡ take 480 (drop (480 * b) records)) × (after ≡ drop (480 * (b + 1)) records)
+next_chunk records part after b e h =
+    let rest = drop (480 * b) records in
+    let later : 480 * b + 480 ≡ 480 * (b + 1) = omega arith in (
+      sym (sym (take_min 480 rest) ∙ ap (take (min 480 (length rest))) e ∙ take_at part after (min 480 (length rest)) h),
+      sym (ap (λ k. drop k records) (sym later) ∙ sym (drop-drop 480 (480 * b) records) ∙ sym (drop_min 480 rest) ∙ ap (drop (min 480 (length rest))) e ∙ drop_at part after (min 480 (length rest)) h),
+    )
 
 -- the first b blocks of the file stand at the front of the room
 pub record BlocksWritten (records room₀ room : List ℕ) (b : ℕ) : Type 0 where

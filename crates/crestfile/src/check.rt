@@ -1,13 +1,11 @@
 // The refusals of a crest file by its length and its blocks, in their order; how many records are in it, and where each starts.
-ghost use Rattle.std.specs.Prelude.{[], ◌∷◌, ◌≡◌, ◌*◌, ◌≤◌, ◌<◌, length};
-ghost use Rattle.model.specs.Records.{block_size, most_records, record_start, record_bytes, count_of};
-ghost use Rattle.model.specs.Refusals.{rule₀, verdict, byte_count};
-ghost use Rattle.model.specs.Acceptance.{length_fits, blocks_rules};
-ghost use Rattle.crestfile.specs.BlockChecks.{block_rules, each_block};
+ghost use Rattle.std.specs.Prelude.{ℕ, List, [], ◌∷◌, ◌≡◌, ◌≤◌, ◌<◌, length};
+ghost use Rattle.model.specs.Records.{block_count, block_of, most_records, record_start, record_bytes, count_of};
+ghost use Rattle.model.specs.Refusals.{Rule, rule, rule₀, for_each, verdict, byte_count, checksum, block_field};
+ghost use Rattle.model.specs.Acceptance.{length_fits, sums_agree, fields_fit, blocks_rules};
 ghost use Rattle.model.specs.Answers.{paper_if, paper_of_outcome};
 
 use blocks::{fields_fit, sums_agree};
-use fields::parts::part_at;
 use model::layout::{
     BLOCK_SIZE, FOUR_BLOCKS, PER_BLOCK, RECORD_SIZE, THREE_BLOCKS, TWO_BLOCKS, USED_AT,
 };
@@ -23,49 +21,41 @@ fn check_length(len: usize) -> Outcome
     }
 }
 
-// The checks that each block goes through: 2, its sums, and 3, its fields.
-#[derive(Clone, Copy)]
-enum BlockCheck {
-    Sums,
-    Fields,
+// 2: of block b.
+fn check_sums(b: usize, block: &[u8; BLOCK_SIZE]) -> Outcome
+    requires { b < 4 }
+    ensures { result ≡ verdict (rule checksum b (sums_agree block.now) ∷ []) }
+{
+    if sums_agree(block) {
+        Outcome::Done
+    } else {
+        refused(refusals::CHECKSUM, b as u32)
+    }
 }
 
-// A check of block b of n.
-fn check_block(what: BlockCheck, n: usize, b: usize, block: &[u8]) -> Outcome
-    requires { (length block.now ≡ block_size) × (b < n) × (n ≤ 4) }
-    ensures { result ≡ verdict (block_rules what n b block.now) }
+// 3: of block b of n.
+fn check_fields(n: usize, b: usize, block: &[u8; BLOCK_SIZE]) -> Outcome
+    requires { (b < n) × (n ≤ 4) }
+    ensures { result ≡ verdict (rule block_field b (fields_fit n b block.now) ∷ []) }
 {
-    match what {
-        BlockCheck::Sums => {
-            if sums_agree(block) {
-                Outcome::Done
-            } else {
-                refused(refusals::CHECKSUM, b as u32)
-            }
-        }
-        BlockCheck::Fields => {
-            if fields_fit(n, b, block) {
-                Outcome::Done
-            } else {
-                refused(refusals::BLOCK_FIELD, b as u32)
-            }
-        }
+    if fields_fit(n, b, block) {
+        Outcome::Done
+    } else {
+        refused(refusals::BLOCK_FIELD, b as u32)
     }
 }
 
 // A check of every block, from the first.
-fn check_each(what: BlockCheck, file: &[u8]) -> Outcome
-    requires { length file.now ≤ 4 * block_size }
-    ensures { result ≡ verdict (each_block what file.now) }
+fn check_each<F: Fn(usize, &[u8; BLOCK_SIZE]) -> Outcome>(file: &[u8], check: F) -> Outcome
+    requires { (b : ℕ) (block : _) → b < block_count file.now → F.pre check b block }
+    ensures { (rules : ℕ → List Rule) → ((b : ℕ) (block : _) (told : _) → F.post check b block told → b < block_count file.now → block.now ≡ block_of file.now b → told ≡ verdict (rules b)) → result ≡ verdict (for_each rules (block_count file.now) 0) }
 {
-    let n = file.len() / BLOCK_SIZE;
-    let mut b = 0;
-    while b < n {
-        match check_block(what, n, b, part_at(file, BLOCK_SIZE * b, BLOCK_SIZE)) {
+    let (blocks, _) = file.as_chunks::<BLOCK_SIZE>();
+    for (b, block) in blocks.iter().enumerate() {
+        match check(b, block) {
             Outcome::Refused(x) => return Outcome::Refused(x),
             Outcome::Done => {}
         }
-        b += 1;
     }
     Outcome::Done
 }
@@ -79,11 +69,17 @@ pub fn check_blocks(file: &[u8]) -> Outcome
         Outcome::Refused(length) => return Outcome::Refused(length),
         Outcome::Done => {}
     }
-    match check_each(BlockCheck::Sums, file) {
+    match check_each(file, check_sums) {
         Outcome::Refused(sums) => return Outcome::Refused(sums),
         Outcome::Done => {}
     }
-    check_each(BlockCheck::Fields, file)
+    let n = file.len() / BLOCK_SIZE;
+    check_each(
+        file,
+        |b: usize, block: &[u8; BLOCK_SIZE]|
+            requires { (b < n) × (n ≤ 4) }
+        { check_fields(n, b, block) },
+    )
 }
 
 // How many records are in use in a file whose blocks are accepted: 15 in each block but the last.

@@ -11,14 +11,8 @@ use model::layout::{BLOCK_SIZE, MOST_RECORDS, PER_BLOCK, RECORD_SIZE, RECORDS_EN
 pub fn count_fits(len: usize) -> bool
     ensures { result ≡ count_fits len }
 {
-    if len % RECORD_SIZE != 0 {
-        return false;
-    }
     let n = len / RECORD_SIZE;
-    if n < 1 {
-        return false;
-    }
-    n <= MOST_RECORDS
+    len % RECORD_SIZE == 0 && 1 <= n && n <= MOST_RECORDS
 }
 
 // Added before a division by the records of a block, it rounds up.
@@ -31,32 +25,14 @@ pub fn blocks_needed(len: usize) -> usize
     (len / RECORD_SIZE + BLOCK_ROUND_UP) / PER_BLOCK
 }
 
-// Where a block's records end that start at `from`, of `len` bytes.
-fn block_end(from: usize, len: usize) -> usize
-    requires { from + records_end < 65536 }
-    ensures { result ≡ min (from + records_end) len }
-{
-    if from + RECORDS_END < len {
-        from + RECORDS_END
-    } else {
-        len
-    }
-}
-
 // The file of 1 to 60 records, at the front of the room; the rest of the room stays as it came.
 pub fn write_blocks(records: &[u8], room: &mut [u8])
     requires records_value { count_fits (length records.now) ≡ true }
     requires records_in_bounds { block_size * blocks_needed records.now ≤ length room.old }
     ensures { room.new ≡ put room.old 0 (file_of records.now) }
 {
-    let len = records.len();
-    let n = blocks_needed(len);
-    let mut b = 0;
-    while b < n {
-        let from = RECORDS_END * b;
-        let to = block_end(from, len);
+    for (b, part) in records.chunks(RECORDS_END).enumerate() {
         let at = BLOCK_SIZE * b;
-        write_block(&mut room[at..at + BLOCK_SIZE], b, &records[from..to]);
-        b += 1;
+        write_block(&mut room[at..at + BLOCK_SIZE], b, part);
     }
 }

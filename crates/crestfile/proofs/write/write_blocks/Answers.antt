@@ -1,47 +1,56 @@
--- `crestfile::write::write_blocks` meets its contract. The loop's invariant: the first `b` blocks of the file stand at the front of the room, and the rest of the room is as it came.
-use Prim.Native.Nat.{◌+◌, ◌*◌, ◌/◌, ◌≤◌, ◌<◌}
-use mathlib.Core.Path.{◌≡◌, ap, ◌∙◌}
+-- `crestfile::write::write_blocks` meets its contract. The loop's invariant: the blocks of the records that are cut off stand at the front of the room, and the rest of the room is as it came.
+use Prim.Native.Nat.{◌+◌, ◌*◌, ◌/◌, ◌≤◌, ◌<◌, min}
+use mathlib.Core.Path.{◌≡◌, sym, ap, ap₂, ◌∙◌}
 use native.Mathlib.Omega.{arith}
-use lib.ListN.{length, length-take}
+use lib.ListN.{length, take, drop, length-drop}
+use Rattle.std.proofs.Common.{rules}
 use Rattle.model.specs.Records.{put}
 use Rattle.model.specs.Writer.{block}
 use Rattle.fields.proofs.PartsOf.{lent_length}
 use Rattle.crestfile.proofs.SoundFile.{count_fits_lem}
 use Rattle.fields.proofs.Puts.{lent_back}
-use Rattle.crestfile.proofs.PutBlocks.{none_written, one_more_written, all_written, block_part}
-use Rattle.crestfile.proofs.write.write_blocks.Goals.{In-loop-b}
+use Rattle.crestfile.proofs.PutBlocks.{BlocksWritten, none_written, one_more_written, all_written, next_chunk}
+use Rattle.std.specs.Iterator.Adapters.{enumerate_count}
+use Rattle.crestfile.proofs.write.write_blocks.Goals.{In-Some}
 use Rattle.crestfile.proofs.write.write_blocks.Goals as goal
 
 -- the records, by their number
-few : (c : In-loop-b) → let n = length c.args.records.now in (n ≡ 32 * (n / 32)) × (n / 32 ≤ 60) × (c.loop-b.b < (n / 32 + 14) / 15)
+few : (c : In-Some) → let n = length c.args.records.now in (n ≡ 32 * (n / 32)) × (n / 32 ≤ 60) × (c.in-Some.b ≡ enumerate_count c.loop-b.b-iterator) × (c.in-Some.b < (n / 32 + 14) / 15)
 few c =
     let f = (count_fits_lem _).0 c.requires.records_value in
-    (omega arith, omega arith, omega (arith, c.loop-b-test.true, c.blocks_needed-n.ensures))
+    let b = enumerate_count c.loop-b.b-iterator in
+    let s = c.in-Some.ensures.steps in
+    let left = ap length c.loop-b.invariant.2 ∙ length-drop (480 * b) c.args.records.now in
+    (omega arith, omega arith, s.1, omega (arith, s.0.1.2))
 
 pub loop-b-init : goal.loop-b-init
-loop-b-init c = none_written _ _
+loop-b-init c = (search (rules, none_written c.args.records.now c.args.room.now), search rules, search rules)
 
-pub block_end-to-requires : goal.block_end-to-requires
-block_end-to-requires c = omega (arith, few (goal.at.block_end-to-requires c).In-loop-b)
+pub slice_bounds-write_block-end : goal.slice_bounds-write_block-end
+slice_bounds-write_block-end c = let f = few (goal.at.slice_bounds-write_block-end c).In-Some in omega arith
 
-pub write_block-requires : goal.write_block-requires
-write_block-requires c =
-    record { room_len = lent_length c.loop-b.room (512 * c.loop-b.b) 512 (omega (arith, few (goal.at.write_block-requires c).In-loop-b)); records_len_bound = rw length-take (omega arith); b_bound = omega (arith, few (goal.at.write_block-requires c).In-loop-b) }
+pub write_block-requires-clause-b_bound : goal.write_block-requires-clause-b_bound
+write_block-requires-clause-b_bound c = omega (arith, few (goal.at.write_block-requires-clause-b_bound c).In-Some)
 
 pub loop-b-preserved : goal.loop-b-preserved
 loop-b-preserved c =
-    let a = c.args in
+    let f = few (goal.at.loop-b-preserved c).In-Some in
+    let s = c.in-Some.ensures.steps in
+    let n : length c.in-Some.part.now ≡ min 480 (length (drop (480 * enumerate_count c.loop-b.b-iterator) c.args.records.now)) = s.0.1.1 ∙ ap₂ (λ k l. min k (length l)) c.loop-b.invariant.1 c.loop-b.invariant.2 in
+    let cut = next_chunk c.args.records.now c.in-Some.part.now _ (enumerate_count c.loop-b.b-iterator) (sym c.loop-b.invariant.2 ∙ s.0.1.0) n in
     let room = c.loop-b.room in
-    let b = c.loop-b.b in
-    let f = few (goal.at.loop-b-preserved c).In-loop-b in
-    let long = c.write_block.auto.room ∙ lent_length room (512 * b) 512 (omega arith) in
-    let mine = block_part a.records.now (480 * b) c.block_end-to.result c.block_end-to.ensures (omega arith) in
-    one_more_written a.records.now a.room.now (length a.records.now / 32) f.0 c.requires.records_in_bounds (omega arith)
-    (lent_back room (512 * b) 512 c.write_block.new.room long ∙ ap (λ x. put room (512 * b) x) (c.write_block.ensures ∙ ap (λ x. block b x) mine))
-    c.loop-b.invariant
-
-pub shape_of-room : goal.shape_of-room
-shape_of-room c = c.loop-b.invariant.same
+    let b = c.in-Some.b in
+    let w : BlocksWritten c.args.records.now c.args.room.now room b = rw s.1 c.loop-b.invariant.0 in
+    let mine : c.in-Some.part.now ≡ take 480 (drop (480 * b) c.args.records.now) = rw s.1 cut.0 in
+    let long = c.write_block.auto.room ∙ lent_length room (512 * b) 512 (omega arith) in (
+      rw (s.2, ← s.1) (one_more_written c.args.records.now c.args.room.now (length c.args.records.now / 32) f.0 c.requires.records_in_bounds (omega arith) (lent_back room (512 * b) 512 c.write_block.new.room long ∙ ap (λ x. put room (512 * b) x) (c.write_block.ensures ∙ ap (λ x. block b x) mine)) w),
+      s.0.0 ∙ c.loop-b.invariant.1,
+      rw s.2 cut.1,
+    )
 
 pub returns : goal.returns
-returns c = all_written _ _ (omega arith) c.loop-b.invariant
+returns c =
+    let s = c.in-None.ensures.steps in
+    let left = sym s.0.1.0 ∙ ap length c.loop-b.invariant.2 ∙ length-drop (480 * enumerate_count c.loop-b.b-iterator) c.args.records.now in
+    let f = (count_fits_lem _).0 c.requires.records_value in
+    all_written _ _ (omega arith) c.loop-b.invariant.0

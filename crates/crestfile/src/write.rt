@@ -1,6 +1,6 @@
 // The one file of record bytes, written into lent room block by block.
-ghost use Rattle.std.specs.Prelude.{true, ◌≡◌, ◌+◌, ◌-◌, ◌*◌, ◌/◌, ◌≤◌, ◌<◌, min, length};
-ghost use Rattle.model.specs.Records.{block_size, record_size, per_block, records_end, put};
+ghost use Rattle.std.specs.Prelude.{true, ◌≡◌, ◌+◌, ◌-◌, ◌*◌, ◌/◌, ◌≤◌, length};
+ghost use Rattle.model.specs.Records.{block_size, record_size, per_block, put};
 ghost use Rattle.model.specs.Writer.{blocks_needed, file_of, count_fits};
 
 use blocks::write_block;

@@ -1,4 +1,5 @@
-// The run record from and to the 24 bytes that a C caller lends.
+// The run record from and to the 24 bytes that a C caller lends. They are a slice, of a length that is tested: of an array that is lent from it by
+// `as_mut_array` and written, a proof knows the length only.
 #![tactic(auto)]
 
 ghost use Rattle.std.specs.Prelude.{◌≡◌, length};
@@ -11,23 +12,15 @@ pub fn run_at(bytes: &[u8]) -> Run
     requires { length bytes.now ≡ run_size }
     ensures { result ≡ run_at bytes.now }
 {
-    let answered = fields::u16_at(bytes, layout::ANSWERED_AT);
-    let refused = fields::u16_at(bytes, layout::REFUSED_AT);
-    let latest = fields::u16_at(bytes, layout::LATEST_AT);
-    let first = fields::u16_at(bytes, layout::FIRST_AT);
-    let reading = fields::u16_at(bytes, layout::FIRST_READING_AT);
-    let one = fields::i32_at(bytes, layout::ONE_AT);
-    let two = fields::i32_at(bytes, layout::TWO_AT);
-    let three = fields::i32_at(bytes, layout::THREE_AT);
     Run {
-        answered,
-        refused,
-        latest,
-        first,
-        reading,
-        one,
-        two,
-        three,
+        answered: fields::u16_at(bytes, layout::ANSWERED_AT),
+        refused: fields::u16_at(bytes, layout::REFUSED_AT),
+        latest: fields::u16_at(bytes, layout::LATEST_AT),
+        first: fields::u16_at(bytes, layout::FIRST_AT),
+        reading: fields::u16_at(bytes, layout::FIRST_READING_AT),
+        one: fields::i32_at(bytes, layout::ONE_AT),
+        two: fields::i32_at(bytes, layout::TWO_AT),
+        three: fields::i32_at(bytes, layout::THREE_AT),
     }
 }
 

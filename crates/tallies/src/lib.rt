@@ -34,32 +34,32 @@ pub fn index(sort: u8) -> usize
     ensures value { result ≡ tally_of sort }
     ensures upper_bound { result < 10 }
 {
-    if sort <= SORTS { sort as usize } else { 0 }
+    if sort <= SORTS { usize::from(sort) } else { 0 }
 }
 
 // One comparison more.
+#[tactic(auto, unfolding(crate::specs::Compared::compared))]
 fn with(t: Tally, same: bool) -> Tally
     ensures { result ≡ compared t same }
 {
-    let done = std::num::wrapping_add_u64(t.done, 1);
-    if same {
-        Tally {
-            done,
-            differ: t.differ,
-        }
+    let differ = if same {
+        t.differ
     } else {
-        Tally {
-            done,
-            differ: std::num::wrapping_add_u64(t.differ, 1),
-        }
+        t.differ.wrapping_add(1)
+    };
+    Tally {
+        done: t.done.wrapping_add(1),
+        differ,
     }
 }
 
 // One comparison more in the tally at k, with a row that is wrong or right.
+#[tactic(auto, unfolding(crate::specs::Compared::counted_at))]
 pub fn counted(mut t: Tallies, k: usize, wrong: bool, same: bool) -> Tallies
     requires { k < 10 }
     ensures { result ≡ counted_at k wrong t same }
 {
+    // An arm each: of an array picked by `&mut` in the `if`, a proof does not know what was written.
     if wrong {
         t.wrong[k] = with(t.wrong[k], same);
     } else {

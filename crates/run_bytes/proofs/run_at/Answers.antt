@@ -9,12 +9,12 @@ pub returns : goal.returns
 unfolding run_at
 returns c =
     rw (
-      c.u16_at-answered.ensures,
-      c.u16_at-refused.ensures,
-      c.u16_at-latest.ensures,
-      c.u16_at-first.ensures,
-      c.u16_at-reading.ensures,
-      to_z-of_z w32 c.i32_at-one.result (record { sfits = c.i32_at-one.type_inv }) ∙ c.i32_at-one.ensures,
-      to_z-of_z w32 c.i32_at-two.result (record { sfits = c.i32_at-two.type_inv }) ∙ c.i32_at-two.ensures,
-      to_z-of_z w32 c.i32_at-three.result (record { sfits = c.i32_at-three.type_inv }) ∙ c.i32_at-three.ensures,
+      c.u16_at.ensures,
+      c.u16_at-2.ensures,
+      c.u16_at-3.ensures,
+      c.u16_at-4.ensures,
+      c.u16_at-5.ensures,
+      to_z-of_z w32 c.i32_at.result (record { sfits = c.i32_at.type_inv }) ∙ c.i32_at.ensures,
+      to_z-of_z w32 c.i32_at-2.result (record { sfits = c.i32_at-2.type_inv }) ∙ c.i32_at-2.ensures,
+      to_z-of_z w32 c.i32_at-3.result (record { sfits = c.i32_at-3.type_inv }) ∙ c.i32_at-3.ensures,
     )

@@ -1,5 +1,5 @@
-// What the program prints: numbers and words in lent room, and the lines.
+// What the program prints: a line put together from words and numbers, and the lines.
 #![tactic(auto)]
 
 pub mod lines;
-mod text;
+pub mod text;

@@ -1,25 +1,72 @@
-// Words and numbers in lent room, from a position on. Each function gives the position after what it wrote.
-ghost use Rattle.std.specs.Prelude.{◌≡◌, ◌+◌, ◌≤◌, length};
-ghost use Rattle.model.specs.Program.{decimal};
-ghost use Rattle.printing.specs.Text.{puts};
+// A line as it is put together: words and numbers, one after another, in room of its own.
+ghost use Rattle.std.specs.Prelude.{ℕ, List, [], ◌++◌, ◌≡◌, ◌+◌, ◌≤◌, length, take};
+ghost use Rattle.model.specs.Program.{ascii, decimal, signed};
+ghost use Rattle.printing.specs.Text.{line_room};
 
-pub(crate) fn put_word(room: &mut [u8], at: usize, word: &[u8]) -> usize
-    requires { at + length word.now ≤ length room.old }
-    ensures room_after { (result, room.new) ≡ puts room.old at word.now }
-    ensures upper_bound { result ≤ at + length word.now }
-{
-    let end = at + word.len();
-    room[at..end].copy_from_slice(word);
-    end
+use fields::parts::copy_at;
+use integers::magnitude;
+use std::marker::Model;
+
+// So many bytes hold every line.
+const LINE_ROOM: usize = 128;
+
+// What stands in it so far: the first `len` bytes of the room.
+#[derive(Drop)]
+pub struct Line {
+    room: [u8; LINE_ROOM],
+    len: usize,
 }
 
-// A number takes 20 bytes at most.
-pub(crate) fn put_decimal(room: &mut [u8], at: usize, n: u64) -> usize
-    requires { at + 20 ≤ length room.old }
-    ensures room_after { (result, room.new) ≡ puts room.old at (decimal n) }
-    ensures upper_bound { result ≤ at + 20 }
-{
-    let mut digits = [0u8; 20];
-    let count = io::decimal(n, &mut digits);
-    put_word(room, at, &digits[..count])
+impl Model for Line {
+    ghost Value = { List ℕ };
+
+    ghost view = { λ l. take l.len l.room };
+
+    ghost invariant = { λ l. l.len ≤ line_room };
+}
+
+impl Line {
+    pub(crate) fn new() -> Line
+        ensures { result ≡ [] }
+    {
+        Line {
+            room: [0; LINE_ROOM],
+            len: 0,
+        }
+    }
+
+    pub fn as_bytes(&self) -> &[u8]
+        ensures { result.now ≡ self.now }
+    {
+        &self.room[..self.len]
+    }
+
+    pub(crate) fn put_word(&mut self, word: &[u8])
+        requires { length self.old + length word.now ≤ line_room }
+        ensures { self.new ≡ self.old ++ word.now }
+    {
+        copy_at(&mut self.room, self.len, word);
+        self.len += word.len();
+    }
+
+    // A number takes 20 bytes at most.
+    pub(crate) fn put_number(&mut self, n: u64)
+        requires { length self.old + 20 ≤ line_room }
+        ensures value { self.new ≡ self.old ++ decimal n }
+        ensures len { length self.new ≤ length self.old + 20 }
+    {
+        let mut digits = [0u8; 20];
+        let count = io::decimal(n, &mut digits);
+        self.put_word(&digits[..count]);
+    }
+
+    // A space and a value: its sign, where it is negative, and its magnitude.
+    pub(crate) fn put_value(&mut self, z: i32)
+        requires { length self.old + 22 ≤ line_room }
+        ensures value { self.new ≡ self.old ++ (ascii " " ++ signed z) }
+        ensures len { length self.new ≤ length self.old + 22 }
+    {
+        self.put_word(if z < 0 { b" -" } else { b" " });
+        self.put_number(magnitude(i64::from(z)));
+    }
 }

@@ -1,20 +1,22 @@
--- The test of zeros: as an iterator makes it; and of a part, which is then as many zeros as it is long.
+-- The test of zeros: as a fold over the bytes makes it; and of a part, which is then as many zeros as it is long.
 use Prim.Native.Nat.{ℕ, zero, suc, ◌+◌, ◌≤◌}
-use mathlib.Core.Bool.{true, ◌&&◌, and-eq-true_iff}
+use mathlib.Core.Bool.{Bool, true, false, ◌&&◌, and-eq-true_iff}
 use mathlib.Core.List.{List, [], ◌∷◌}
 use mathlib.Core.Logic.{◌↔◌}
-use mathlib.Core.Path.{◌≡◌, refl, ap}
+use mathlib.Core.Path.{◌≡◌, refl}
 use borrow.Author.Tests.{eqb-true}
 use lib.Dec.{eqb}
 use lib.ListN.{length, replicate}
-use Rattle.std.specs.List.{list_all}
+use Rattle.std.specs.List.{fold}
 use Rattle.model.specs.Records.{part, all_zero}
 use Rattle.fields.proofs.PartsOf.{length_part}
 
-pub all_zero_all : (l : List ℕ) → list_all (λ b. eqb b 0) l ≡ all_zero l
+pub zeros_folded : (zero : Bool) (l : List ℕ) → fold (λ z b. z && eqb b 0) zero l ≡ zero && all_zero l
 unfolding all_zero
-all_zero_all [] = refl
-all_zero_all (b ∷ l) = ap (λ r. eqb b 0 && r) (all_zero_all l)
+zeros_folded true [] = refl
+zeros_folded false [] = refl
+zeros_folded true (b ∷ l) = zeros_folded (eqb b 0) l
+zeros_folded false (b ∷ l) = zeros_folded false l
 
 all_zero→zeros : (l : List ℕ) → all_zero l ≡ true → l ≡ replicate (length l) 0
 unfolding all_zero

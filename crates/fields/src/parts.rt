@@ -30,9 +30,9 @@ pub fn clear_at(room: &mut [u8], at: usize, n: usize)
     room[at..at + n].fill(0);
 }
 
-// Whether all bytes are zero.
+// Whether all bytes are zero. Each is looked at, whatever those before it are, so that the machine takes several at a time.
 pub fn all_zero(s: &[u8]) -> bool
     ensures { result ≡ all_zero s.now }
 {
-    s.iter().all(|b| *b == 0)
+    s.iter().fold(true, |zero, b| zero & (*b == 0))
 }

@@ -25,7 +25,7 @@ pub record Summed (block : List ℕ) (a b i : ℕ) : Type 0 where
   pub rest_a : sum_of (take 508 block) ≡ a + sum_of (drop i (take 508 block))
   pub rest_b : weighted_from 0 (take 508 block) ≡ b + weighted_from i (drop i (take 508 block))
 
-weight_small : (i x : ℕ) → x < 256 → (508 - i) * x ≤ 129540
+pub weight_small : (i x : ℕ) → x < 256 → (508 - i) * x ≤ 129540
 weight_small i x h =
     let p : 508 - i ≤ 508 = omega arith in
     let q : x ≤ 255 = omega arith in

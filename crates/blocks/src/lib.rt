@@ -8,8 +8,8 @@ ghost use Rattle.model.specs.Writer.{block_body, block};
 
 use fields::parts::{all_zero, clear_at, copy_at};
 use model::layout::{
-    BLOCK_SIZE, EDITION, EDITION_AT, FIELDS_AT, PER_BLOCK, RECORD_SIZE, SUM_B_AT, SUM_MODULUS,
-    SUMS_AT, USED_AT, ZERO_COUNT, ZEROS_AT,
+    EDITION, EDITION_AT, FIELDS_AT, PER_BLOCK, RECORD_SIZE, SUM_B_AT, SUM_MODULUS, SUMS_AT,
+    USED_AT, ZERO_COUNT, ZEROS_AT,
 };
 
 // The two sums of a block, modulo 65,536.
@@ -38,7 +38,8 @@ fn sums_of(block: &[u8]) -> Sums
 
 // Whether both stored sums are those of the bytes before them.
 #[tactic(auto, unfolding(model::specs::Acceptance::sums_agree))]
-pub fn sums_agree(block: &[u8; BLOCK_SIZE]) -> bool
+pub fn sums_agree(block: &[u8]) -> bool
+    requires { length block.now ≡ block_size }
     ensures { result ≡ sums_agree block.now }
 {
     let s = sums_of(block);
@@ -61,8 +62,9 @@ fn use_fits(n: usize, b: usize, used: usize) -> bool
 
 // Whether block b of n has the fields that it must have, and zeros where nothing is in use.
 #[tactic(auto, unfolding(model::specs::Acceptance::fields_fit))]
-pub fn fields_fit(n: usize, b: usize, block: &[u8; BLOCK_SIZE]) -> bool
-    requires { b < n }
+pub fn fields_fit(n: usize, b: usize, block: &[u8]) -> bool
+    requires block_len { length block.now ≡ block_size }
+    requires b_lt_n { b < n }
     ensures { result ≡ fields_fit n b block.now }
 {
     let number = usize::from(fields::u16_at(block, FIELDS_AT));

@@ -1,4 +1,5 @@
 -- What the proofs of several functions use.
 mod Digits
+mod Padded
 pub mod Texts
 mod Words

@@ -1,19 +1,21 @@
 // A line as it is put together: words and numbers, one after another, in room of its own.
 ghost use Rattle.std.specs.Prelude.{ℕ, List, [], ◌++◌, ◌≡◌, ◌+◌, ◌≤◌, length, take};
 ghost use Rattle.model.specs.Program.{ascii, decimal, signed};
-ghost use Rattle.printing.specs.Text.{line_room};
+ghost use Rattle.printing.specs.Text.{line_room, padded, IsFilled};
 
 use fields::parts::copy_at;
 use integers::magnitude;
 use std::marker::Model;
 
 // So many bytes hold every line.
-const LINE_ROOM: usize = 128;
+pub const LINE_ROOM: usize = 128;
 
-// What stands in it so far: the first `len` bytes of the room.
-#[derive(Drop)]
+pub type LineRoom = [u8; LINE_ROOM];
+
+// What stands in it so far: the first `len` bytes of the room. The others are zeros, so that its bytes say all that there is of it.
+#[derive(Clone, Copy)]
 pub struct Line {
-    room: [u8; LINE_ROOM],
+    room: LineRoom,
     len: usize,
 }
 
@@ -22,7 +24,11 @@ impl Model for Line {
 
     ghost view = { λ l. take l.len l.room };
 
-    ghost invariant = { λ l. l.len ≤ line_room };
+    ghost invariant = { λ l. IsFilled l.room l.len };
+
+    ghost inverse = { λ bytes. record { room = padded bytes; len = length bytes } };
+
+    ghost inverse_ok = { λ l h i. record { room = h.whole i; len = h.held i } };
 }
 
 impl Line {
@@ -36,14 +42,16 @@ impl Line {
     }
 
     pub fn as_bytes(&self) -> &[u8]
-        ensures { result.now ≡ self.now }
+        ensures value { result.now ≡ self.now }
+        ensures fits { length result.now ≤ line_room }
     {
         &self.room[..self.len]
     }
 
     pub(crate) fn put_word(&mut self, word: &[u8])
         requires { length self.old + length word.now ≤ line_room }
-        ensures { self.new ≡ self.old ++ word.now }
+        ensures value { self.new ≡ self.old ++ word.now }
+        ensures fits { length self.new ≤ line_room }
     {
         copy_at(&mut self.room, self.len, word);
         self.len += word.len();

@@ -7,4 +7,4 @@ use Rattle.printing.proofs.text.Line.put_number.Goals as goal
 pub returns-clause-value : goal.returns-clause-value
 returns-clause-value c =
     let d = c.decimal-count in
-    c.put_word.ensures ∙ ap (λ t. c.args.self.now ++ t) (d.ensures.digits ∙ fewest_decimal _ _ d.ensures.len)
+    c.put_word.ensures.value ∙ ap (λ t. c.args.self.now ++ t) (d.ensures.digits ∙ fewest_decimal _ _ d.ensures.len)

@@ -19,4 +19,4 @@ returns-clause-value c =
     let size : c.magnitude.result ≡ nat_abs (to_z w64 (of_z w64 (to_z w32 (of_z w32 z)))) = rw c.from.ensures at c.magnitude.ensures in
     let words : c.if-z-lt0.put_word.now ++ decimal c.magnitude.result ≡ ascii " " ++ signed z =
     elim c.if-z-lt0.branch [ then-z-lt0 w ↦ ap (λ (x : Bor (List ℕ)). x.now ++ decimal c.magnitude.result) w.put_word-is ∙ negative_value c.ranges.z size w.if-z-lt0.true | else-z-lt0 w ↦ ap (λ (x : Bor (List ℕ)). x.now ++ decimal c.magnitude.result) w.put_word-is ∙ other_value c.ranges.z size w.if-z-lt0.false ] in
-    then _ _ _ c.put_word.ensures c.put_number.ensures.value ∙ ap (λ t. c.args.self.now ++ t) words
+    then _ _ _ c.put_word.ensures.value c.put_number.ensures.value ∙ ap (λ t. c.args.self.now ++ t) words
